@@ -14,7 +14,7 @@ use Rattle.pipe_types.specs.declared.topology.Topology.{Topology}
 use Rattle.pipe_types.specs.Numbers.{post}
 use Rattle.pipe_types.specs.Sound.{IsSound, has_fields_of, is_producer_in, by_demand, by_partition, is_size, processors}
 use Rattle.pipe_types.specs.Stages.{spec_of}
-use Rattle.stage_bodies.specs.Seen.{BoxSeen, BodySeen, FeedSeen, Single, Merged, SinkSeen}
+use Rattle.stage_bodies.specs.Seen.{BoxSeen, BodySeen, FeedSeen, Single, Merged as MergedSeen, SinkSeen}
 use Rattle.stage_bodies.specs.Jobs.{Both}
 use Rattle.stage_bodies.specs.Posts.{place_at}
 use Rattle.stage_laws.proofs.Numbering.{numbered_topology}
@@ -25,7 +25,7 @@ use Rattle.pace_laws.specs.Pacing.{IsNewGate, IsPace, at_start}
 use Rattle.body_laws.specs.Ready.{There, IsArmed, IsBodyFor, IsBodyAt, IsNewFeed, IsUnused, IsFilled}
 use Rattle.body_laws.proofs.Posts.{few_slots}
 use Rattle.edge_names.specs.Seen.{EdgesSeen}
-use Rattle.edge_names.specs.Supplies.{Feeds, Feed, Supplied, Fed, Written, FeedsProducers, by_name, fed, feed_by, supplied_by, written}
+use Rattle.edge_names.specs.Supplies.{Feeds, Feed, Opened, Merged, Made, Supplied, Fed, Written, FeedsProducers, by_name, fed, feed_by, supplied_by, written}
 use Rattle.edge_names.specs.Opened.{AreHome, AreOpened, HasFeed, HasSink, IsOpened, supplied_at, supplied_in}
 use Rattle.box_stock.specs.Lends.{AreHandedOut, IsBodyBefore, bare_body, body_with}
 
@@ -101,7 +101,9 @@ new_gate paced pace begins some =
 
 fresh_source : (edges : EdgesSeen) (pace : Option Pace) (feed : Feed) (old new : Option FeedSeen) → IsPace pace → HasFeed edges (Some (Fed pace feed)) old new → IsFreshSource new
 fresh_source edges pace feed old (Some (Single lines)) some h = record { some = refl; new = record { waiting = h.nothing_waits; end = h.no_end; gate = new_gate lines.source.paced pace h.gate some } }
-fresh_source edges pace feed old (Some (Merged merge)) some h = absurd h
+fresh_source edges pace (Merged names) old (Some (MergedSeen merge)) some h = record { some = refl; new = record { read = h.unread; unpaced = h.unpaced } }
+fresh_source edges pace (Opened name) old (Some (MergedSeen merge)) some h = absurd h
+fresh_source edges pace (Made bytes) old (Some (MergedSeen merge)) some h = absurd h
 fresh_source edges pace feed old None some h = absurd h
 
 sink_there : (edges : EdgesSeen) (name : List ℕ) (old new : Option SinkSeen) → HasSink edges (Some (Written name)) old new → is_some new ≡ true
@@ -204,16 +206,16 @@ filled feeds topology edges table now sound feed paces handed opened =
 -- ---- sources by name
 
 -- a sound topology names the source of each producer
-name_by : (topology : Topology) (spec : StageSpec) (r : Role) → has_fields_of topology.stages r spec ≡ true → r ≡ Producer → (edge : Option (List ℕ)) → spec.edge ≡ edge → IsSome (feed_by edge)
-name_by topology spec Producer fields is (Some name) e = refl
-name_by topology spec Producer fields is None e = absurd (let some : is_some spec.edge ≡ true = has_edge topology.stages spec fields in let none : is_some spec.edge ≡ false = ap is_some e in cc)
-name_by topology spec Processor fields is edge e = cc
-name_by topology spec Supervisor fields is edge e = cc
-name_by topology spec Batcher fields is edge e = cc
+name_by : (splits : Bool) (topology : Topology) (spec : StageSpec) (r : Role) → has_fields_of topology.stages r spec ≡ true → r ≡ Producer → (edge : Option (List ℕ)) → spec.edge ≡ edge → IsSome (feed_by splits edge)
+name_by splits topology spec Producer fields is (Some name) e = refl
+name_by splits topology spec Producer fields is None e = absurd (let some : is_some spec.edge ≡ true = has_edge topology.stages spec fields in let none : is_some spec.edge ≡ false = ap is_some e in cc)
+name_by splits topology spec Processor fields is edge e = cc
+name_by splits topology spec Supervisor fields is edge e = cc
+name_by splits topology spec Batcher fields is edge e = cc
 name_by topology spec BatchProcessor fields is edge e = cc
 
-pub names_feed : (topology : Topology) → IsSound topology → FeedsProducers by_name topology
-names_feed topology sound s spec found is = name_by topology spec spec.role (sound_fields topology s spec sound found) is spec.edge refl
+pub names_feed : (splits : Bool) (topology : Topology) → IsSound topology → FeedsProducers (by_name splits) topology
+names_feed splits topology sound s spec found is = name_by splits topology spec spec.role (sound_fields topology s spec sound found) is spec.edge refl
 
 -- ---- what opens finds its body
 

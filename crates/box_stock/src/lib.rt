@@ -6,7 +6,7 @@
 //! A stock suffices where `shortage` of `topology_needs`, asked with its `boxes_in`, finds none.
 #![tactic(auto)]
 
-ghost use Rattle.std.specs.Prelude.{◌≡◌, ℕ, List, length, Option, None};
+ghost use Rattle.std.specs.Prelude.{◌≡◌, ℕ, Bool, List, length, Option, None};
 ghost use Rattle.pipe_types.specs.{Sound.{IsSound}, declared.topology.Kind.{Kind}, declared.topology.StageSpec.{StageSpec}, declared.topology.Topology.{Topology}};
 ghost use Rattle.stage_bodies.specs.Seen.{BodySeen};
 ghost use Rattle.body_laws.specs.Ready.{IsFilled};
@@ -41,7 +41,7 @@ pub fn opened_tables_are_filled()
 /// A sound topology names the source of each producer.
 #[tactic(auto, using(crate::proofs::Filled::names_feed))]
 pub fn names_feed_producers()
-    ensures { (topology : Topology) → IsSound topology → FeedsProducers by_name topology }
+    ensures { (splits : Bool) (topology : Topology) → IsSound topology → FeedsProducers (by_name splits) topology }
 {}
 
 /// In a table that was handed out every stage that is supplied with something has its body.

@@ -1,6 +1,7 @@
 -- An array's items beside the list that they stand for.
-use Rattle.std.proofs.Common.{◌≡◌, ℕ, ◌+◌, ◌<◌, List, [], ◌∷◌, length, drop, get_or, flat_map, string_bytes, Option, refl, ◌∙◌, arith}
-use Rattle.std.proofs.lemmas.List.{drop_more}
+use Rattle.std.proofs.Common.{◌≡◌, ℕ, ◌+◌, ◌<◌, ◌≤◌, Bool, true, false, List, [], ◌∷◌, length, drop, get_or, flat_map, string_bytes, Option, refl, ap, sym, ◌∙◌, arith}
+use Rattle.std.specs.Prelude.{◌||◌}
+use Rattle.std.proofs.lemmas.List.{drop_more, at_drop_all}
 use Rattle.toml.specs.Data.{Members, as_str, as_table}
 use Rattle.toml.specs.View.{view, items_view, members_view}
 use Rattle.toml.specs.declared.value.Value.{Value}
@@ -12,7 +13,7 @@ use Rattle.config_table.specs.declared.format.Section.{Section}
 use Rattle.config_table.specs.declared.format.Row.{Row}
 use Rattle.config_table.specs.Fault.{least, sooner, at_place}
 use Rattle.config_table.specs.Values.{item_count, flaw_faults, text_flaw, item_faults}
-use Rattle.config_table.specs.Walk.{table_faults, each_faults, row_faults, key_faults, unknown_keys, top_faults, faults_beside}
+use Rattle.config_table.specs.Walk.{table_faults, each_faults, row_faults, key_faults, unknown_keys, top_faults, faults_beside, is_merged_in, any_merged}
 use Rattle.config_table.proofs.Least.{sooner-part}
 
 pub count_lemma : (vs : List Value) → item_count (items_view vs) ≡ length vs
@@ -58,3 +59,16 @@ pub top_step : (version : FileVersion) (producers : ℕ) (left rest : List Entry
     → sooner (sooner found fault) (least (faults_beside version producers (members_view rest))) ≡ total
 top_step version producers left rest e found fault total same is so_far =
     rw is (sooner-part found (top_faults version producers (string_bytes e.0) (view e.1)) (faults_beside version producers (members_view rest)) ∙ rw same at so_far)
+
+merged_at : (i : ℕ) (vs : List Value) (v : Value) → i < length vs → v ≡ get_or vs i v → any_merged (items_view (drop i vs)) ≡ (is_merged_in (as_table (view v)) || any_merged (items_view (drop (i + 1) vs)))
+merged_at i vs v below at = rw (items_view-drop vs i v below, ← at) refl
+
+-- a producer without a merge
+pub merged_next : (i : ℕ) (vs : List Value) (v : Value) → i < length vs → v ≡ get_or vs i v → is_merged_in (as_table (view v)) ≡ false → any_merged (items_view (drop i vs)) ≡ any_merged (items_view (drop (i + 1) vs))
+merged_next i vs v below at is = merged_at i vs v below at ∙ ap (λ (b : Bool). b || any_merged (items_view (drop (i + 1) vs))) is
+
+pub merged_here : (i : ℕ) (vs : List Value) (v : Value) → i < length vs → v ≡ get_or vs i v → is_merged_in (as_table (view v)) ≡ true → any_merged (items_view (drop i vs)) ≡ true
+merged_here i vs v below at is = merged_at i vs v below at ∙ ap (λ (b : Bool). b || any_merged (items_view (drop (i + 1) vs))) is
+
+pub merged_none : (i : ℕ) (vs : List Value) → length vs ≤ i → any_merged (items_view (drop i vs)) ≡ false
+merged_none i vs all = at_drop_all (λ (left : List Value). any_merged (items_view left)) vs i all

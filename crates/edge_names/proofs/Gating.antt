@@ -23,7 +23,7 @@ use Rattle.stage_bodies.specs.Seen.{SourceSeen, LineSeen, source_seen}
 use Rattle.pace_laws.specs.Pacing.{IsPace}
 use Rattle.edge_names.specs.Seen.{EdgesSeen}
 use Rattle.edge_names.specs.Gates.{AreInner, ArePaces, IsGated, IsInner, IsShared, pace_by, pace_of_stage, without_gate}
-use Rattle.edge_names.specs.Supplies.{Feed, Opened, Made}
+use Rattle.edge_names.specs.Supplies.{Feed, Opened, Merged, Made}
 use Rattle.edge_names.specs.Opened.{GivesFed, GivesFeed}
 
 -- ---- taken off
@@ -66,6 +66,10 @@ taken_off source g inner is holds = rw is (by g.front holds)
 
 -- ---- put before
 
+-- without a gate it is seen as the source
+pub plain_is : {S : Type 0} (source : SourceOf S) (s : S) (g : GatedSeen S) → g.inner ≡ s → g.front ≡ None → gated_seen source g ≡ source_seen source s
+plain_is source s g inner front = rw (front, inner) refl
+
 pub gated_is : {S : Type 0} (source : SourceOf S) (gate : Option Gate) (s : S) (g : GatedSeen S) (waiting : List ℕ) (end : Option LineEnd) → IfSome gate (λ x. (moment_of x ≡ 0) × (given_of x ≡ 0)) → g.inner ≡ s → g.front ≡ option_map front_of gate
     → waiting ≡ [] → end ≡ None → IsGated (option_map pace_of gate) (source_seen source s) (record { source = gated_seen source g; waiting = waiting; end = end })
 gated_is source None s g waiting end begun inner front none_waits no_end =
@@ -86,11 +90,13 @@ gated_is source (Some gate) s g waiting end begun inner front none_waits no_end 
 plain : (edges : EdgesSeen) (feed : Feed) (source : SourceSeen) → GivesFeed edges feed source → source.paced ≡ unpaced
 plain edges (Opened name) source h = h.no_pace
 plain edges (Made bytes) source h = h.no_pace
+plain edges (Merged names) source h = absurd h
 
 -- nor a wait
 unwaited : (edges : EdgesSeen) (feed : Feed) (source : SourceSeen) → GivesFeed edges feed source → source.waits ≡ 0
 unwaited edges (Opened name) source h = h.no_wait
 unwaited edges (Made bytes) source h = h.no_wait
+unwaited edges (Merged names) source h = absurd h
 
 in_its_gate : (edges : EdgesSeen) (pace : Option Pace) (feed : Feed) (source : SourceSeen) (lines : LineSeen) → IsGated pace source lines → GivesFeed edges feed source → GivesFeed edges feed (without_gate lines.source)
 in_its_gate edges pace (Opened name) source lines g h = record {
@@ -100,6 +106,7 @@ in_its_gate edges pace (Opened name) source lines g h = record {
   no_pace = refl;
   given = λ t. let both = h.given t in (subst (λ (b : Bool). IsTrue b) (sym g.told) both.0, g.left ∙ both.1);
 }
+in_its_gate edges pace (Merged names) source lines g h = absurd h
 in_its_gate edges pace (Made bytes) source lines g h = record {
   tells = subst (λ (b : Bool). IsTrue b) (sym g.told) h.tells;
   nothing_taken = g.taken h.nothing_taken;

@@ -3,6 +3,8 @@ pub mod Openings
 pub mod Returns
 pub mod Cuts
 pub mod Undoes
+pub mod Merges
 pub mod Supplying
+pub mod NameLaws
 pub mod Calms
 pub mod Calls

@@ -1,6 +1,6 @@
 -- What openings add.
-use Rattle.std.proofs.Common.{◌≡◌, Bool, true, false, ℕ, zero, suc, ◌+◌, ◌*◌, ◌≤◌, ◌<◌, List, [], ◌∷◌, ◌++◌, refl, ap, sym, ◌∙◌, subst, arith, add-one, length, take, get_or}
-use Rattle.std.specs.Prelude.{slice_get, ◌==◌, ◌&&◌, nat_le, Option, Some, None, Ok, Err, IsSome, if◌then◌else◌}
+use Rattle.std.proofs.Common.{◌≡◌, Bool, true, false, ℕ, zero, suc, ◌+◌, ◌*◌, ◌≤◌, ◌<◌, List, [], ◌∷◌, ◌++◌, refl, ap, sym, ◌∙◌, subst, inl, inr, arith, add-one, length, take, get_or}
+use Rattle.std.specs.Prelude.{◌⊎◌, slice_get, ◌==◌, ◌&&◌, nat_le, Option, Some, None, Ok, Err, IsSome, if◌then◌else◌}
 use Rattle.std.specs.List.{flat_map}
 use Rattle.std.proofs.lemmas.List.{append-nil, append_assoc}
 use Rattle.std.proofs.lemmas.Option.{slice_get_read}
@@ -16,22 +16,22 @@ use Rattle.pipe_types.specs.declared.topology.Topology.{Topology}
 use Rattle.pipe_edges.specs.Paces.{Pace}
 use Rattle.pipe_edges.specs.declared.edges.EdgeKind.{EdgeKind}
 use Rattle.pipe_edges.specs.declared.edges.EdgeKind.TheVariants.{File, Source, Sink}
-use Rattle.pipe_edges.specs.declared.edges.EdgeEnd.TheVariants.{Failed}
-use Rattle.stage_bodies.specs.Seen.{SourceSeen, SinkSeen, LineSeen, FeedSeen, Single, Merged, BodySeen}
+use Rattle.pipe_edges.specs.declared.edges.EdgeEnd.TheVariants.{Failed, OutOfMemory}
+use Rattle.stage_bodies.specs.Seen.{SourceSeen, SinkSeen, LineSeen, MergeSeen, FeedSeen, Single, Merged as MergedSeen, sources_in, BodySeen}
 use Rattle.stage_bodies.specs.Jobs.{Both}
 use Rattle.stage_bodies.specs.Posts.{place_at}
 use Rattle.stage_laws.specs.Numbered.{IsNumberedTopology}
 use Rattle.edge_names.specs.Seen.{EdgesSeen}
 use Rattle.edge_names.specs.Named.{GivesSource, GivesSink, Opens}
 use Rattle.edge_names.specs.Gates.{without_gate}
-use Rattle.edge_names.specs.Supplies.{Feeds, Feed, Opened, Made, Supplied, Fed, Written, call_for, call_of, fed, feed_call, supplied}
-use Rattle.edge_names.specs.Opened.{GivesFed, GivesFeed, Asks, AreHome, AreOpened, AreOpenedAt, HasFeed, HasSource, HasSink, IsOpened, supplied_at, supplied_in, calls_of, one}
+use Rattle.edge_names.specs.Supplies.{Feeds, Feed, Opened, Merged, Made, Supplied, Fed, Written, calls_for, fed, feed_calls, stage_calls, supplied}
+use Rattle.edge_names.specs.Opened.{GivesFed, GivesFeed, GivesMerge, Asks, AreHome, AreOpened, AreOpenedAt, AreUnread, HasFeed, HasSource, HasSink, IsOpened, supplied_at, supplied_in, calls_of}
 
 -- ---- calls
 
-pub fed_call : (pace : Option Pace) (feed : Option Feed) → call_for (fed pace feed) ≡ feed_call feed
-fed_call pace (Some feed) = refl
-fed_call pace None = refl
+pub fed_calls : (pace : Option Pace) (feed : Option Feed) → calls_for (fed pace feed) ≡ feed_calls feed
+fed_calls pace (Some feed) = refl
+fed_calls pace None = refl
 
 pub asks_nothing : (a : EdgesSeen) → Asks [] a a
 asks_nothing a = record {
@@ -57,6 +57,17 @@ asks_more xs ys a b c h k = record {
 pub asks_call : {T : Type 0} (kind : EdgeKind) (name : List ℕ) (a b : EdgesSeen) (x : T) → Opens {T = T} kind name a b (Ok x) → Asks ((kind, name) ∷ []) a b
 asks_call kind name a b x o =
     record { same_telling = o.same_telling; stands = o.stands; asked = o.asked; sources = o.sources; sinks = o.sinks; faults_stay = o.faults_stay }
+
+-- one that found no memory is not noted
+pub asks_empty : {T : Type 0} (kind : EdgeKind) (name : List ℕ) (a b : EdgesSeen) → Opens {T = T} kind name a b (Err OutOfMemory) → Asks [] a b
+asks_empty kind name a b o = record {
+  same_telling = o.same_telling;
+  stands = o.stands;
+  asked = λ t. o.asked t ∙ sym (append-nil a.asked);
+  sources = o.sources;
+  sinks = o.sinks;
+  faults_stay = o.faults_stay;
+}
 
 pub asks_failed : {T : Type 0} (kind : EdgeKind) (name : List ℕ) (a b : EdgesSeen) → Opens {T = T} kind name a b (Err Failed) → Asks ((kind, name) ∷ []) a b
 asks_failed kind name a b o =
@@ -94,13 +105,40 @@ has_source_from calls a b (Some (Source, name)) x y (Some lines) asks e h =
 
 gives_feed_from : (calls : List (EdgeKind × List ℕ)) (a b : EdgesSeen) (feed : Feed) (source : SourceSeen) → Asks calls a b → GivesFeed b feed source → GivesFeed a feed source
 gives_feed_from calls a b (Opened name) source asks h = gives_source_from calls a b name source asks h
+gives_feed_from calls a b (Merged names) source asks h = h
 gives_feed_from calls a b (Made bytes) source asks h = h
+
+both_sources_from : (calls : List (EdgeKind × List ℕ)) (a b : EdgesSeen) (name : Option (List ℕ)) (source : Option SourceSeen) → Asks calls a b → Both (GivesSource b) name source → Both (GivesSource a) name source
+both_sources_from calls a b (Some name) (Some source) asks h = gives_source_from calls a b name source asks h
+both_sources_from calls a b None None asks h = tt
+both_sources_from calls a b (Some name) None asks h = absurd h
+both_sources_from calls a b None (Some source) asks h = absurd h
+
+gives_merge_from : (calls : List (EdgeKind × List ℕ)) (a b : EdgesSeen) (names : List (List ℕ)) (merge : MergeSeen) → Asks calls a b → GivesMerge b names merge → GivesMerge a names merge
+gives_merge_from calls a b names merge asks h = record {
+  some = h.some;
+  few = h.few;
+  given = λ k. both_sources_from calls a b (slice_get names k) (slice_get (sources_in (MergedSeen merge)) k) asks (h.given k);
+  unread = h.unread;
+  unpaced = h.unpaced;
+}
+
+-- what was opened later and went back unread is as if it was opened at once
+pub unread_from : (cs : List (EdgeKind × List ℕ)) (a b : EdgesSeen) (calls : List (EdgeKind × List ℕ)) (back : List (List ℕ × SourceSeen)) → Asks cs a b → AreUnread b calls back → AreUnread a calls back
+unread_from cs a b [] [] asks h = tt
+unread_from cs a b ((Source, name) ∷ calls) (given ∷ back) asks h = (h.0, gives_source_from cs a b name given.1 asks h.1, unread_from cs a b calls back asks h.2)
+unread_from cs a b [] (given ∷ back) asks h = absurd h
+unread_from cs a b ((Source, name) ∷ calls) [] asks h = absurd h
+unread_from cs a b ((Sink, name) ∷ calls) back asks h = absurd h
+unread_from cs a b ((File, name) ∷ calls) back asks h = absurd h
 
 pub has_feed_from : (calls : List (EdgeKind × List ℕ)) (a b : EdgesSeen) (what : Option Supplied) (x y z : Option FeedSeen) → Asks calls a b → y ≡ x → HasFeed b what y z → HasFeed a what x z
 has_feed_from calls a b None x y z asks e h = h ∙ e
 has_feed_from calls a b (Some (Written name)) x y z asks e h = h ∙ e
 has_feed_from calls a b (Some (Fed pace feed)) x y None asks e h = h
-has_feed_from calls a b (Some (Fed pace feed)) x y (Some (Merged merge)) asks e h = h
+has_feed_from calls a b (Some (Fed pace (Merged names))) x y (Some (MergedSeen merge)) asks e h = gives_merge_from calls a b names merge asks h
+has_feed_from calls a b (Some (Fed pace (Opened name))) x y (Some (MergedSeen merge)) asks e h = h
+has_feed_from calls a b (Some (Fed pace (Made bytes))) x y (Some (MergedSeen merge)) asks e h = h
 has_feed_from calls a b (Some (Fed pace feed)) x y (Some (Single lines)) asks e h =
     record { source = gives_feed_from calls a b feed (without_gate lines.source) asks h.source; gate = h.gate; nothing_waits = h.nothing_waits; no_end = h.no_end }
 
@@ -163,9 +201,9 @@ pub flat_map_next : {A B : Type 0} (f : A → List B) (xs : List A) (x : A) → 
 flat_map_next f [] x = append-nil (f x)
 flat_map_next f (y ∷ xs) x = ap (λ z. f y ++ z) (flat_map_next f xs x) ∙ sym (append_assoc (f y) (flat_map f xs) (f x))
 
-pub calls_step : (feeds : Feeds) (stages : List StageSpec) (n : ℕ) (spec : StageSpec) → slice_get stages n ≡ Some spec → calls_of feeds (take n stages) ++ one (call_of feeds spec) ≡ calls_of feeds (take (n + 1) stages)
+pub calls_step : (feeds : Feeds) (stages : List StageSpec) (n : ℕ) (spec : StageSpec) → slice_get stages n ≡ Some spec → calls_of feeds (take n stages) ++ stage_calls feeds spec ≡ calls_of feeds (take (n + 1) stages)
 calls_step feeds stages n spec here =
-    sym (ap (calls_of feeds) (take_next stages n spec here) ∙ flat_map_next (λ (s : StageSpec). one (call_of feeds s)) (take n stages) spec)
+    sym (ap (calls_of feeds) (take_next stages n spec here) ∙ flat_map_next (stage_calls feeds) (take n stages) spec)
 
 -- at the place of the next stage there was nothing to open, and its call is its own; elsewhere the call is as it was
 call_step : (feeds : Feeds) (topology : Topology) (n : ℕ) (spec : StageSpec) (p : Post) → IsNumberedTopology topology → slice_get topology.stages n ≡ Some spec → p.slot < 16
@@ -224,9 +262,9 @@ opened_more feeds topology n spec calls a b old mid new numbered here asks h k p
     (body_more calls a b (spec.no.0 * 16 + 0 == place_at p) (supplied_at feeds topology n p) (supplied feeds spec) (old (place_at p)) (mid (place_at p)) (new (place_at p)) asks step.1 (h p low) (k (place_at p)))
 
 pub asked_more : (feeds : Feeds) (stages : List StageSpec) (n : ℕ) (spec : StageSpec) (a b c : EdgesSeen) → slice_get stages n ≡ Some spec
-    → Asks (calls_of feeds (take n stages)) a b → Asks (one (call_of feeds spec)) b c → Asks (calls_of feeds (take (n + 1) stages)) a c
+    → Asks (calls_of feeds (take n stages)) a b → Asks (stage_calls feeds spec) b c → Asks (calls_of feeds (take (n + 1) stages)) a c
 asked_more feeds stages n spec a b c here h k =
-    subst (λ calls. Asks calls a c) (calls_step feeds stages n spec here) (asks_more (calls_of feeds (take n stages)) (one (call_of feeds spec)) a b c h k)
+    subst (λ calls. Asks calls a c) (calls_step feeds stages n spec here) (asks_more (calls_of feeds (take n stages)) (stage_calls feeds spec) a b c h k)
 
 pub opened_turn : (feeds : Feeds) (topology : Topology) (n at : ℕ) (spec : StageSpec) (calls : List (EdgeKind × List ℕ)) (a b : EdgesSeen) (old mid new : ℕ → Option BodySeen) → IsNumberedTopology topology → slice_get topology.stages n ≡ Some spec
     → at ≡ spec.no.0 * 16 + 0 → Asks calls a b → AreOpened feeds topology n a old mid → AreOpenedAt at (supplied feeds spec) b mid new → AreOpened feeds topology (n + 1) a old new
@@ -259,35 +297,17 @@ opened_stage feeds topology s spec edges old new numbered found h =
     subst (λ c. Both (IsOpened edges c) (old (place_at (post s 0))) (new (place_at (post s 0)))) (chosen feeds true (nat_le s.0 (length topology.stages)) (spec_of topology s) refl within ∙ ap (supplied_in feeds) found) (h (post s 0) (omega arith))
 
 -- what was supplied is there
-pub given_feed : (edges : EdgesSeen) (pace : Option Pace) (feed : Feed) (old new : Option FeedSeen) → HasFeed edges (Some (Fed pace feed)) old new → (lines : LineSeen) × (new ≡ Some (Single lines)) × GivesFed edges pace feed lines
-given_feed edges pace feed old (Some (Single lines)) h = (lines, refl, h)
-given_feed edges pace feed old (Some (Merged merge)) h = absurd h
+pub given_feed : (edges : EdgesSeen) (pace : Option Pace) (feed : Feed) (old new : Option FeedSeen) → HasFeed edges (Some (Fed pace feed)) old new
+    → ((lines : LineSeen) × (new ≡ Some (Single lines)) × GivesFed edges pace feed lines) ⊎ ((names : List (List ℕ)) × (merge : MergeSeen) × (feed ≡ Merged names) × (new ≡ Some (MergedSeen merge)) × GivesMerge edges names merge)
+given_feed edges pace feed old (Some (Single lines)) h = inl (lines, refl, h)
+given_feed edges pace (Merged names) old (Some (MergedSeen merge)) h = inr (names, merge, refl, refl, h)
+given_feed edges pace (Opened name) old (Some (MergedSeen merge)) h = absurd h
+given_feed edges pace (Made bytes) old (Some (MergedSeen merge)) h = absurd h
 given_feed edges pace feed old None h = absurd h
 
 pub given_sink : (edges : EdgesSeen) (name : List ℕ) (old new : Option SinkSeen) → HasSink edges (Some (Written name)) old new → (sink : SinkSeen) × (new ≡ Some sink) × GivesSink edges name sink
 given_sink edges name old (Some sink) h = (sink, refl, h)
 given_sink edges name old None h = absurd h
-
--- a call by name opens what is supplied
-abbrev kind_in : Option (EdgeKind × List ℕ) → EdgeKind
-kind_in (Some call) = call.0
-kind_in None = File
-
-abbrev name_in : Option (EdgeKind × List ℕ) → List ℕ
-name_in (Some call) = call.1
-name_in None = []
-
-pub call_opens_source : (what : Option Supplied) (name : List ℕ) → call_for what ≡ Some (Source, name) → (pace : Option Pace) × (what ≡ Some (Fed pace (Opened name)))
-call_opens_source (Some (Fed pace (Opened n))) name e = let same : n ≡ name = ap name_in e in (pace, ap (λ z. Some (Fed pace (Opened z))) same)
-call_opens_source (Some (Fed pace (Made bytes))) name e = cc
-call_opens_source (Some (Written n)) name e = let kind : Sink ≡ Source = ap kind_in e in cc
-call_opens_source None name e = cc
-
-pub call_opens_sink : (what : Option Supplied) (name : List ℕ) → call_for what ≡ Some (Sink, name) → what ≡ Some (Written name)
-call_opens_sink (Some (Written n)) name e = let same : n ≡ name = ap name_in e in ap (λ z. Some (Written z)) same
-call_opens_sink (Some (Fed pace (Opened n))) name e = let kind : Source ≡ Sink = ap kind_in e in cc
-call_opens_sink (Some (Fed pace (Made bytes))) name e = cc
-call_opens_sink None name e = cc
 
 same_as_before : (edges : EdgesSeen) (x y : Option BodySeen) → Both (IsOpened edges None) x y → y ≡ x
 same_as_before edges None None h = refl

@@ -1,5 +1,5 @@
 -- What giving back adds, and what bodies keep.
-use Rattle.std.proofs.Common.{◌≡◌, ℕ, suc, ◌+◌, ◌*◌, ◌≤◌, List, [], ◌++◌, take, refl, ap, sym, ◌∙◌, subst, inl, inr, arith}
+use Rattle.std.proofs.Common.{◌≡◌, ℕ, zero, suc, ◌+◌, ◌*◌, ◌≤◌, ◌<◌, List, [], ◌∷◌, ◌++◌, length, take, drop, refl, ap, sym, ◌∙◌, subst, inl, inr, arith}
 use Rattle.std.specs.Prelude.{slice_get, ◌==◌, Option, Some, None, Result, Ok, Err, OnOk, OnErr, if◌then◌else◌}
 use Rattle.std.proofs.lemmas.List.{append-nil, append_assoc}
 use Rattle.std.proofs.lemmas.List.Elements.{All-nil, All-push}
@@ -13,8 +13,8 @@ use Rattle.stage_laws.specs.Numbered.{IsNumberedTopology}
 use Rattle.edge_names.specs.Seen.{EdgesSeen}
 use Rattle.edge_names.specs.Controls.{IsBackFirst, IsGivenInPart, named_control}
 use Rattle.edge_names.specs.Opened.{AreOpenedAt, IsOpened}
-use Rattle.edge_names.specs.Returned.{AreCalm, GivesBack, GivesOff, IsBackInPart, IsCalm, KeepsCallbacks, named_source, named_sink, source_in, sources_of, sinks_of}
-use Rattle.edge_names.specs.Supplies.{Feeds, Opened, Made, Supplied, Fed, Written, supplied, written}
+use Rattle.edge_names.specs.Returned.{AreCalm, GivesBack, GivesOff, IsBackInPart, IsBackUpTo, IsCalm, KeepsCallbacks, named_source, named_sink, source_in, sources_before, sources_of, sinks_of}
+use Rattle.edge_names.specs.Supplies.{Feeds, Opened, Merged, Made, Supplied, Fed, Written, supplied, written}
 use Rattle.edge_names.proofs.Gating.{inner_all, inner_more}
 use Rattle.edge_names.proofs.Openings.{take_next, flat_map_next}
 
@@ -66,8 +66,9 @@ off_same xs ys a b c h k = record { inner = h.inner; ungated = h.ungated; back =
 part_back : (feeds : Feeds) (topology : Topology) (control : Option LineSeen) (table : ℕ → Option BodySeen) (a b c : EdgesSeen) → GivesBack (named_control topology.control control) [] a b → IsBackInPart feeds topology table b c → IsGivenInPart feeds topology control table a c
 part_back feeds topology control table a b c first part = record {
   parts = suc part.stages;
+  more = part.more;
   some_left = omega (arith, part.some_left);
-  back = off_more (named_control topology.control control) (sources_of feeds (take part.stages topology.stages) table) [] (sinks_of feeds (take part.stages topology.stages) table) a b c (off_as (named_control topology.control control) [] a b first) part.back;
+  back = off_more (named_control topology.control control) (sources_before feeds part.stages part.more topology.stages table) [] (sinks_of feeds (take part.stages topology.stages) table) a b c (off_as (named_control topology.control control) [] a b first) part.back;
 }
 
 pub part_back_on : (feeds : Feeds) (T E : Type 0) (r : Result T E) (topology : Topology) (control : Option LineSeen) (table : ℕ → Option BodySeen) (a b c : EdgesSeen) → GivesBack (named_control topology.control control) [] a b
@@ -88,7 +89,7 @@ back_first (Err x) feeds topology control table xs ys a b c first all part =
 
 -- nothing was given back
 pub none_back : (feeds : Feeds) (topology : Topology) (control : Option LineSeen) (table : ℕ → Option BodySeen) (a b : EdgesSeen) → GivesBack [] [] a b → IsGivenInPart feeds topology control table a b
-none_back feeds topology control table a b back = record { parts = 0; some_left = omega arith; back = off_as [] [] a b back }
+none_back feeds topology control table a b back = record { parts = 0; more = 0; some_left = omega arith; back = off_as [] [] a b back }
 
 pub none_first : (name : Option (List ℕ)) (control : Option LineSeen) (a b : EdgesSeen) → GivesBack [] [] a b → IsBackFirst name control a b
 none_first name control a b back = inl (back.back_sources ∙ append-nil a.sources_back)
@@ -102,6 +103,41 @@ sinks_step : (feeds : Feeds) (stages : List StageSpec) (n : ℕ) (spec : StageSp
     → sinks_of feeds (take n stages) was ++ named_sink (supplied feeds spec) (was (place_at (post spec.no 0))) ≡ sinks_of feeds (take (n + 1) stages) was
 sinks_step feeds stages n spec was here =
     sym (ap (λ (xs : List StageSpec). sinks_of feeds xs was) (take_next stages n spec here) ∙ flat_map_next (λ (s : StageSpec). named_sink (supplied feeds s) (was (place_at (post s.no 0)))) (take n stages) spec)
+
+here_alone : {A : Type 0} (xs : List A) (n : ℕ) (x : A) → slice_get xs n ≡ Some x → take 1 (drop n xs) ≡ x ∷ []
+here_alone [] n x e = cc
+here_alone (y ∷ []) zero x e = let is : y ≡ x = cc in ap (λ z. z ∷ []) is
+here_alone (y ∷ z ∷ zs) zero x e = let is : y ≡ x = cc in ap (λ z. z ∷ []) is
+here_alone (y ∷ ys) (suc n) x e = here_alone ys n x e
+
+-- the sources of the stage at hand
+stage_alone : (feeds : Feeds) (stages : List StageSpec) (n : ℕ) (spec : StageSpec) (was : ℕ → Option BodySeen) → slice_get stages n ≡ Some spec
+    → sources_of feeds (take 1 (drop n stages)) was ≡ named_source (supplied feeds spec) (was (place_at (post spec.no 0)))
+stage_alone feeds stages n spec was here =
+    ap (λ (xs : List StageSpec). sources_of feeds xs was) (here_alone stages n spec here) ∙ append-nil (named_source (supplied feeds spec) (was (place_at (post spec.no 0))))
+
+-- memory was wanting at a stage: the stages before it went back, and the first of its own sources
+pub back_part : (feeds : Feeds) (topology : Topology) (n at : ℕ) (spec : StageSpec) (was now : ℕ → Option BodySeen) (a b c : EdgesSeen) → IsNumberedTopology topology → slice_get topology.stages n ≡ Some spec → n < length topology.stages
+    → at ≡ spec.no.0 * 16 + 0 → ((s : ℕ) → (n + 1) * 16 ≤ s → now s ≡ was s)
+    → GivesOff (sources_of feeds (take n topology.stages) was) (sinks_of feeds (take n topology.stages) was) a b
+    → IsBackUpTo (named_source (supplied feeds spec) (now at)) b c
+    → IsBackInPart feeds topology was a c
+back_part feeds topology n at spec was now a b c numbered here within is rest h k =
+    let no = numbered.numbers n spec here in
+    let place = place_at (post spec.no 0) in
+    let sources = sources_of feeds (take n topology.stages) was in
+    let sinks = sinks_of feeds (take n topology.stages) was in
+    let alone = sources_of feeds (take 1 (drop n topology.stages)) was in
+    let same : now at ≡ was place = ap now is ∙ rest place (omega (arith, no)) in
+    let own : named_source (supplied feeds spec) (now at) ≡ alone = ap (λ x. named_source (supplied feeds spec) x) same ∙ sym (stage_alone feeds topology.stages n spec was here) in
+    let given : GivesOff (take k.count alone) [] b c = subst (λ xs. GivesOff (take k.count xs) [] b c) own k.back in
+    let more : GivesOff (sources ++ take k.count alone) (sinks ++ []) a c = off_more sources (take k.count alone) sinks [] a b c h given in
+    record {
+      stages = n;
+      more = k.count;
+      some_left = within;
+      back = subst (λ ys. GivesOff (sources ++ take k.count alone) ys a c) (append-nil sinks) more;
+    }
 
 -- one stage more
 pub back_turn : (feeds : Feeds) (topology : Topology) (n at : ℕ) (spec : StageSpec) (was now : ℕ → Option BodySeen) (a b c : EdgesSeen) → IsNumberedTopology topology → slice_get topology.stages n ≡ Some spec
@@ -163,6 +199,7 @@ pub calm_none : (what : Option Supplied) (source : Option SourceSeen) → None �
 calm_none (Some (Fed pace (Made bytes))) None e = tt
 calm_none (Some (Fed pace (Made bytes))) (Some source) e = cc
 calm_none (Some (Fed pace (Opened name))) source e = tt
+calm_none (Some (Fed pace (Merged names))) source e = tt
 calm_none (Some (Written name)) source e = tt
 calm_none None source e = tt
 

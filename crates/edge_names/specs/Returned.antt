@@ -1,15 +1,15 @@
 -- What a run gives back by name, stage by stage.
-use Rattle.std.specs.Prelude.{◌≡◌, ◌<◌, ◌++◌, ℕ, List, [], ◌∷◌, length, take, Option, Some, None, IsTrue, All}
+use Rattle.std.specs.Prelude.{◌≡◌, ◌<◌, ◌++◌, ℕ, List, [], ◌∷◌, length, take, drop, Option, Some, None, option_map, IsTrue, All}
 use Rattle.std.specs.List.{flat_map}
 use Rattle.pipe_types.specs.Numbers.{post}
 use Rattle.pipe_types.specs.declared.topology.StageSpec.{StageSpec}
 use Rattle.pipe_types.specs.declared.topology.Topology.{Topology}
-use Rattle.stage_bodies.specs.Seen.{SourceSeen, SourcesSeen, OneSource, SinkSeen, FeedSeen, Single, BodySeen}
+use Rattle.stage_bodies.specs.Seen.{SourceSeen, SourcesSeen, OneSource, sources_out, SinkSeen, FeedSeen, Single, BodySeen}
 use Rattle.stage_bodies.specs.Jobs.{Both}
 use Rattle.stage_bodies.specs.Posts.{place_at}
 use Rattle.edge_names.specs.Seen.{EdgesSeen}
 use Rattle.edge_names.specs.Gates.{AreInner, HasNoWait}
-use Rattle.edge_names.specs.Supplies.{Feeds, Feed, Opened, Made, Supplied, Fed, Written, given_back, supplied}
+use Rattle.edge_names.specs.Supplies.{Feeds, Feed, Opened, Merged, Made, Supplied, Fed, Written, given_back, supplied}
 
 -- ---- what is given back
 
@@ -18,14 +18,13 @@ abbrev pub one_source : Option FeedSeen → Option SourceSeen
 one_source (Some (Single lines)) = Some lines.source
 one_source _ = None
 
--- the source that is taken out, if it is one
-abbrev pub one_out : Option SourcesSeen → Option SourceSeen
-one_out (Some (OneSource source)) = Some source
-one_out _ = None
-
 abbrev pub source_in : Option BodySeen → Option SourceSeen
 source_in (Some body) = one_source body.source
 source_in None = None
+
+abbrev pub feed_in : Option BodySeen → Option FeedSeen
+feed_in (Some body) = body.source
+feed_in None = None
 
 abbrev pub sink_in : Option BodySeen → Option SinkSeen
 sink_in (Some body) = body.sink
@@ -35,15 +34,15 @@ abbrev pub with_name : {A : Type 0} → List ℕ → Option A → List (List ℕ
 with_name name (Some x) = (name, x) ∷ []
 with_name name None = []
 
--- a source, as it is given back where this was supplied, but for its gate
-abbrev pub fed_back : Option Supplied → Option SourceSeen → List (List ℕ × SourceSeen)
-fed_back (Some (Fed pace feed)) source = given_back (Some feed) source
-fed_back (Some (Written name)) source = []
-fed_back None source = []
+-- a source, or those of a merge, as they are given back where this was supplied, but for their gates
+abbrev pub fed_back : Option Supplied → Option SourcesSeen → List (List ℕ × SourceSeen)
+fed_back (Some (Fed pace feed)) sources = given_back (Some feed) sources
+fed_back (Some (Written name)) sources = []
+fed_back None sources = []
 
--- the source that stands in the body of a producer, as it is given back, with its name
+-- what stands in the body of a producer, as it is given back, with its name; of a merge each source with its own
 abbrev pub named_source : Option Supplied → Option BodySeen → List (List ℕ × SourceSeen)
-named_source what body = fed_back what (source_in body)
+named_source what body = fed_back what (option_map sources_out (feed_in body))
 
 -- the sink that stands in the body of a stage that opened one, with its name
 abbrev pub named_sink : Option Supplied → Option BodySeen → List (List ℕ × SinkSeen)
@@ -73,23 +72,40 @@ pub record GivesOff (sources : List (List ℕ × SourceSeen)) (sinks : List (Lis
   pub ungated : AreInner sources inner
   pub back : GivesBack inner sinks old new
 
--- memory was wanting: what the first stages opened was given back
+-- memory was wanting: the first so many of these went back
+pub record IsBackUpTo (sources : List (List ℕ × SourceSeen)) (old new : EdgesSeen) : Type 0 where
+  pub count : ℕ
+  pub back : GivesOff (take count sources) [] old new
+
+-- the sources of the first so many stages, and the first so many of the next one
+abbrev pub sources_before : Feeds → (n more : ℕ) → List StageSpec → (ℕ → Option BodySeen) → List (List ℕ × SourceSeen)
+sources_before feeds n more stages table = sources_of feeds (take n stages) table ++ take more (sources_of feeds (take 1 (drop n stages)) table)
+
+-- memory was wanting: what the first stages opened was given back, and so many of the sources of the next one
 pub record IsBackInPart (feeds : Feeds) (topology : Topology) (table : ℕ → Option BodySeen) (old new : EdgesSeen) : Type 0 where
   pub stages : ℕ
+  pub more : ℕ
   pub some_left : stages < length topology.stages
-  pub back : GivesOff (sources_of feeds (take stages topology.stages) table) (sinks_of feeds (take stages topology.stages) table) old new
+  pub back : GivesOff (sources_before feeds stages more topology.stages table) (sinks_of feeds (take stages topology.stages) table) old new
 
 -- a source that was made has counted no fault and no wait
 abbrev pub IsCalmFeed : Option Feed → SourceSeen → Type 0
 IsCalmFeed (Some (Made bytes)) source = (source.faults ≡ 0) × (source.waits ≡ 0)
 IsCalmFeed (Some (Opened name)) source = Unit {0}
+IsCalmFeed (Some (Merged names)) source = Unit {0}
 IsCalmFeed None source = Unit {0}
+
+-- the same of what was taken out of a body, in its gate
+abbrev pub IsCalmOut : Option Feed → SourcesSeen → Type 0
+IsCalmOut (Some (Made bytes)) (OneSource source) = (source.faults ≡ 0) × HasNoWait source
+IsCalmOut _ sources = Unit {0}
 
 -- nor in its gate, beside the gate's own
 abbrev pub IsCalm : Option Supplied → Option SourceSeen → Type 0
 IsCalm (Some (Fed pace (Made bytes))) (Some source) = (source.faults ≡ 0) × HasNoWait source
 IsCalm (Some (Fed pace (Made bytes))) None = Unit {0}
 IsCalm (Some (Fed pace (Opened name))) source = Unit {0}
+IsCalm (Some (Fed pace (Merged names))) source = Unit {0}
 IsCalm (Some (Written name)) source = Unit {0}
 IsCalm None source = Unit {0}
 

@@ -1,15 +1,16 @@
 //! Giving back by name, in stage order.
 
-ghost use Rattle.std.specs.Prelude.{◌≡◌, ◌≢◌, ◌++◌, ℕ, [], Option, length, option_map, OnOk, OnErr};
+ghost use Rattle.std.specs.Prelude.{◌≡◌, ◌≢◌, ◌++◌, ℕ, [], Option, Some, length, option_map, OnOk, OnErr};
 ghost use Rattle.pipe_types.specs.{Sound.{IsSound}, declared.topology.StageSpec.{StageSpec}};
-ghost use Rattle.stage_bodies.specs.Seen.{body_at, line_seen, sources_seen};
-ghost use Rattle.edge_names.specs.{Controls.{IsBackFirst, IsGivenInPart, named_control}, Supplies.{at_paces, supplied, written}};
-ghost use Rattle.edge_names.specs.Returned.{AreCalm, GivesBack, GivesOff, IsBackInPart, IsCalm, KeepsCallbacks, one_out, named_source, named_sink, source_in, sink_in, sources_of, sinks_of};
+ghost use Rattle.stage_bodies.specs.Seen.{body_at, line_seen, sources_out, sources_seen};
+ghost use Rattle.edge_names.specs.{Controls.{IsBackFirst, IsGivenInPart, named_control}, Supplies.{at_paces, given_back, supplied, written}};
+ghost use Rattle.edge_names.specs.Returned.{AreCalm, GivesBack, GivesOff, IsBackInPart, IsBackUpTo, IsCalm, IsCalmOut, KeepsCallbacks, feed_in, named_source, named_sink, source_in, sink_in, sources_of, sinks_of};
 ghost use Rattle.pipe_edges.specs.Paces.{Pace};
 
 use crate::control::back_control;
 use crate::gates::take_off;
-use crate::seen::{SeenEdges, SeenSink, SeenSource, back_sink};
+use crate::merging::back_streams;
+use crate::seen::{SeenEdges, SeenSink, back_sink};
 use crate::supply::Supply;
 use pipe_edges::{ByteSink, ByteSource, Edges, LineSource};
 use pipe_types::numbers::Post;
@@ -18,31 +19,21 @@ use rate_gate::GatedSource;
 use stage_bodies::{FeedSources, Houses, place_of, put_back, take_out};
 use std::alloc::AllocError;
 
-// The source of a feed that has one.
-fn one_of<S: ByteSource + Drop>(sources: Option<FeedSources<S>>) -> Option<S>
-    ensures { option_map (⟦<S as SeenSource>⟧.seen) result ≡ one_out (option_map (sources_seen S.ByteSource) sources) }
-{
-    match sources {
-        Some(FeedSources::One(source)) => Some(source),
-        _ => None,
-    }
-}
-
-/// Takes the source out of the body at this place.
-fn source_out<S: ByteSource + Drop, K: ByteSink, B: Houses<S, K>>(
+/// Takes the source out of the body at this place, or the sources of a merge.
+fn sources_out_of<S: ByteSource + Drop, K: ByteSink, B: Houses<S, K>>(
     bodies: &mut Vec<Option<B>>,
     at: usize,
-) -> Option<S>
-    ensures out { option_map (⟦<S as SeenSource>⟧.seen) result ≡ source_in (body_at B.look bodies.old.items at) }
+) -> Option<FeedSources<S>>
+    ensures out { option_map (sources_seen S.ByteSource) result ≡ option_map sources_out (feed_in (body_at B.look bodies.old.items at)) }
     ensures others { (s : ℕ) → at ≢ s → body_at B.look bodies.new.items s ≡ body_at B.look bodies.old.items s }
     ensures callbacks { KeepsCallbacks (body_at B.look bodies.old.items) (body_at B.look bodies.new.items) }
     ensures len { length bodies.new.items ≡ length bodies.old.items }
 {
     let body = take_out(bodies, at)?;
     let mut body = body;
-    let source = one_of(body.take_source());
+    let sources = body.take_source();
     put_back(bodies, at, body);
-    source
+    sources
 }
 
 /// Takes the sink out of the body at this place.
@@ -85,7 +76,32 @@ fn back_sink_of<E: Edges, P: ByteSource, B: Houses<P, E::Sink>>(
     }
 }
 
-/// Gives back what a stage opened, if it stands in the body at this place, whatever its pace was; a source without its gate.
+/// Gives back the sources of a producer, whatever its pace was, without their gates.
+fn back_sources<E: Edges, S: Supply<E>>(
+    supply: &S,
+    spec: &StageSpec,
+    sources: FeedSources<GatedSource<S::Source>>,
+    edges: &mut E,
+) -> Result<(), AllocError>
+    ensures back { OnOk result (GivesOff (given_back (S.feeds supply.now spec.now) (Some (sources_seen ⟦<GatedSource<S::Source> as ByteSource>⟧ sources))) []
+        (⟦<E as SeenEdges>⟧.seen edges.old) (⟦<E as SeenEdges>⟧.seen edges.new)) }
+    ensures in_part { OnErr result (IsBackUpTo (given_back (S.feeds supply.now spec.now) (Some (sources_seen ⟦<GatedSource<S::Source> as ByteSource>⟧ sources)))
+        (⟦<E as SeenEdges>⟧.seen edges.old) (⟦<E as SeenEdges>⟧.seen edges.new)) }
+    ensures calm { OnOk result (IsCalmOut (S.feeds supply.now spec.now) (sources_seen ⟦<GatedSource<S::Source> as ByteSource>⟧ sources)) }
+{
+    match supply.merged(spec) {
+        None => match sources {
+            FeedSources::One(gated) => supply.take_back(spec, 0, take_off(gated), edges),
+            FeedSources::Many(_) => Ok(()),
+        },
+        Some(_) => match sources {
+            FeedSources::Many(list) => back_streams(supply, spec, list.into_vec(), edges),
+            FeedSources::One(_) => Ok(()),
+        },
+    }
+}
+
+/// Gives back what a stage opened, if it stands in the body at this place, whatever its pace was; sources without their gates.
 fn back_stage<E: Edges, S: Supply<E>, B: Houses<GatedSource<S::Source>, E::Sink>>(
     supply: &S,
     spec: &StageSpec,
@@ -95,15 +111,16 @@ fn back_stage<E: Edges, S: Supply<E>, B: Houses<GatedSource<S::Source>, E::Sink>
 ) -> Result<(), AllocError>
     ensures back { (paces : StageSpec → Option Pace) → OnOk result (GivesOff (named_source (supplied (record { origin = S.feeds supply.now; pace = paces }) spec.now) (body_at B.look bodies.old.items at)) (named_sink (supplied (record { origin = S.feeds supply.now; pace = paces }) spec.now) (body_at B.look bodies.old.items at))
         (⟦<E as SeenEdges>⟧.seen edges.old) (⟦<E as SeenEdges>⟧.seen edges.new)) }
-    ensures nothing { OnErr result (GivesBack [] [] (⟦<E as SeenEdges>⟧.seen edges.old) (⟦<E as SeenEdges>⟧.seen edges.new)) }
+    ensures in_part { (paces : StageSpec → Option Pace) → OnErr result (IsBackUpTo (named_source (supplied (record { origin = S.feeds supply.now; pace = paces }) spec.now) (body_at B.look bodies.old.items at))
+        (⟦<E as SeenEdges>⟧.seen edges.old) (⟦<E as SeenEdges>⟧.seen edges.new)) }
     ensures calm { (paces : StageSpec → Option Pace) → OnOk result (IsCalm (supplied (record { origin = S.feeds supply.now; pace = paces }) spec.now) (source_in (body_at B.look bodies.old.items at))) }
     ensures others { (s : ℕ) → at ≢ s → body_at B.look bodies.new.items s ≡ body_at B.look bodies.old.items s }
     ensures callbacks { KeepsCallbacks (body_at B.look bodies.old.items) (body_at B.look bodies.new.items) }
     ensures len { length bodies.new.items ≡ length bodies.old.items }
 {
     match spec.role {
-        Role::Producer => match source_out(bodies, at) {
-            Some(gated) => supply.take_back(spec, take_off(gated), edges),
+        Role::Producer => match sources_out_of(bodies, at) {
+            Some(sources) => back_sources(supply, spec, sources, edges),
             None => Ok(()),
         },
         Role::BatchProcessor => back_sink_of(spec, at, bodies, edges),

@@ -2,7 +2,7 @@
 
 ghost use Rattle.std.specs.Prelude.{[], option_map, IfOk, IfErr, OnOk, OnErr};
 ghost use Rattle.stage_bodies.specs.Seen.{line_seen};
-ghost use Rattle.edge_names.specs.{Controls.{IsControlOpened, control_call, named_control}, Opened.{IfCutOff, IfFailed, IsOneCut, IsOneFailed}, Returned.{GivesBack}};
+ghost use Rattle.edge_names.specs.{Controls.{IsControlOpened, control_call, named_control}, Opened.{IfCutOff, IfFailed, IsOneCut, IsOneFailed, one}, Returned.{GivesBack}};
 
 use crate::lines::open_lines;
 use crate::opening::Unopened;
@@ -20,8 +20,8 @@ pub(crate) fn open_control<E: Edges>(
 ) -> Result<Option<LineSource<E::Source>>, Unopened>
     ensures opened { IfOk result (λ control. IsControlOpened name.now (⟦<E as SeenEdges>⟧.seen edges.old) (⟦<E as SeenEdges>⟧.seen edges.new)
         (option_map (line_seen E.Source.ByteSource) control)) }
-    ensures failed { IfErr result (λ e. IfFailed e (λ n. IsOneFailed (control_call name.now) n (⟦<E as SeenEdges>⟧.seen edges.old) (⟦<E as SeenEdges>⟧.seen edges.new))) }
-    ensures cut_off { IfErr result (λ e. IfCutOff e (IsOneCut (control_call name.now) (⟦<E as SeenEdges>⟧.seen edges.old) (⟦<E as SeenEdges>⟧.seen edges.new))) }
+    ensures failed { IfErr result (λ e. IfFailed e (λ n. IsOneFailed (one (control_call name.now)) n (⟦<E as SeenEdges>⟧.seen edges.old) (⟦<E as SeenEdges>⟧.seen edges.new))) }
+    ensures cut_off { IfErr result (λ e. IfCutOff e (IsOneCut (one (control_call name.now)) (⟦<E as SeenEdges>⟧.seen edges.old) (⟦<E as SeenEdges>⟧.seen edges.new))) }
 {
     match name {
         Some(name) => match open_lines(alloc, name, edges) {

@@ -88,6 +88,14 @@ pub(crate) fn gated_lines<S: ByteSource>(
     }
 }
 
+/// The source, which stands in no gate.
+#[tactic(auto, using(crate::proofs::Gating::plain_is))]
+pub(crate) fn ungated<S: ByteSource>(source: S) -> GatedSource<S>
+    ensures { ⟦<GatedSource<S> as SeenSource>⟧.seen result ≡ ⟦<S as SeenSource>⟧.seen source }
+{
+    GatedSource::plain(source)
+}
+
 /// The source out of its gate.
 #[tactic(auto, using(crate::proofs::Gating::taken_off))]
 pub(crate) fn take_off<S: ByteSource>(gated: GatedSource<S>) -> S

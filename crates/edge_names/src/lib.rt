@@ -2,8 +2,8 @@
 //! source stands in a gate with its share.
 //!
 //! The control source is no stage's, and is the first. A producer comes to its source by the supply of the run (`ByName`: it
-//! opens it), and a batch processor opens its sink, if it has one, in the order of the stages, and they stand in the bodies of
-//! these. `open_or_give_back` makes all these calls, or gives
+//! opens it, or merges the sources of several names, which it opens in order), and a batch processor opens its sink, if it has
+//! one, in the order of the stages, and they stand in the bodies of these. `open_or_give_back` makes all these calls, or gives
 //! back what was opened before a call failed; `give_back` gives all of it back under its names, in the same order. Contracts
 //! see edges, sources and sinks as plain data.
 #![tactic(auto)]
@@ -12,6 +12,8 @@ mod back;
 mod control;
 mod gates;
 mod lines;
+mod merging;
+mod names;
 mod opening;
 mod seen;
 mod supply;

@@ -1,22 +1,16 @@
 //! The control source by its name, to be read by lines.
 
-ghost use Rattle.std.specs.Prelude.{◌≡◌, ◌∷◌, [], Some, IfOk, IfErr, OnOk, OnErr};
+ghost use Rattle.std.specs.Prelude.{◌≡◌, ◌∷◌, [], IfOk, IfErr, OnOk, OnErr};
 ghost use Rattle.pipe_edges.specs.declared.edges.EdgeKind.TheVariants.{Source};
 ghost use Rattle.stage_bodies.specs.Seen.{line_seen};
 ghost use Rattle.edge_names.specs.Opened.{Asks, GivesLines, fresh_lines, IfCutOff, IfFailed, IsOneCut, IsOneFailed, IsReturned};
 
+use crate::names::copy_text;
 use crate::opening::Unopened;
 use crate::seen::{SeenEdges, SeenSource, back_source, open_control_source};
 use pipe_edges::{ByteSource, EdgeEnd, Edges, LineSource};
 use pipe_types::bytes::Text;
 use std::alloc::{AllocError, Global};
-
-/// A text of its own.
-pub(crate) fn copy_text(alloc: Global, text: &Text) -> Result<Text, AllocError>
-    ensures { IfOk result (λ copy. copy ≡ text.now) }
-{
-    Ok(Text::from_string(String::from_str(alloc, text.as_str())?))
-}
 
 /// Opens the control source of this name, to be read by lines.
 pub(crate) fn open_lines<E: Edges>(
@@ -27,10 +21,10 @@ pub(crate) fn open_lines<E: Edges>(
     ensures asks { OnOk result (Asks ((Source, name.now) ∷ []) (⟦<E as SeenEdges>⟧.seen edges.old) (⟦<E as SeenEdges>⟧.seen edges.new)) }
     ensures gives { IfOk result (λ lines. GivesLines (⟦<E as SeenEdges>⟧.seen edges.old) name.now
         (line_seen E.Source.ByteSource lines)) }
-    ensures failed { IfErr result (λ e. IfFailed e (λ n. IsOneFailed (Some (Source, name.now)) n (⟦<E as SeenEdges>⟧.seen edges.old) (⟦<E as SeenEdges>⟧.seen edges.new))) }
-    ensures cut_off { IfErr result (λ e. IfCutOff e (IsOneCut (Some (Source, name.now)) (⟦<E as SeenEdges>⟧.seen edges.old) (⟦<E as SeenEdges>⟧.seen edges.new))) }
+    ensures failed { IfErr result (λ e. IfFailed e (λ n. IsOneFailed ((Source, name.now) ∷ []) n (⟦<E as SeenEdges>⟧.seen edges.old) (⟦<E as SeenEdges>⟧.seen edges.new))) }
+    ensures cut_off { IfErr result (λ e. IfCutOff e (IsOneCut ((Source, name.now) ∷ []) (⟦<E as SeenEdges>⟧.seen edges.old) (⟦<E as SeenEdges>⟧.seen edges.new))) }
 {
-    let Ok(source_name) = copy_text(alloc, name) else {
+    let Ok(source_name) = copy_text(alloc, name.as_str()) else {
         return Err(Unopened::OutOfMemory);
     };
     match open_control_source(name, edges) {

@@ -1,17 +1,19 @@
 //! Opening by name, in stage order.
 
-ghost use Rattle.std.specs.Prelude.{◌≡◌, ◌≤◌, ◌==◌, ℕ, None, Some, if◌then◌else◌, length, option_map, IfOk, IfErr, IfSome, OnOk, OnErr, IsSome};
+ghost use Rattle.std.specs.Prelude.{◌≡◌, ◌≤◌, ◌==◌, ℕ, Option, None, Some, if◌then◌else◌, length, option_map, IfOk, IfErr, IfSome, OnOk, OnErr, IsSome};
 ghost use Rattle.pipe_types.specs.{Sound.{IsSound}, Sound.{producers as producers_of}};
-ghost use Rattle.stage_bodies.specs.Seen.{Single, line_seen, body_at, with_source, with_sink};
+ghost use Rattle.stage_bodies.specs.Seen.{feed_seen, line_seen, body_at, with_source, with_sink};
 ghost use Rattle.edge_names.specs.Controls.{IsCutShort, IsUndone, control_call, run_calls};
 ghost use Rattle.edge_names.specs.{Opened.{Asks, AreHome, AreOpened, HasSource, IfCutOff, IfFailed, IsCutOff, IsFailed, OpensOne, edge_calls}, Gates.{IsShared}};
-ghost use Rattle.edge_names.specs.{Supplies.{Written, at_paces, fed, supplied}, Returned.{KeepsCallbacks}};
+ghost use Rattle.edge_names.specs.{Supplies.{Written, at_paces, fed, merge_count, supplied}, Returned.{KeepsCallbacks}};
 ghost use Rattle.rate_gate.specs.Gate.{pace_of, moment_of, given_of};
+ghost use Rattle.pipe_edges.specs.Paces.{Pace};
 
 use crate::back::give_back;
 use crate::control::open_control;
 use crate::gates::{count_producers, gate_at, gated_lines};
-use crate::lines::copy_text;
+use crate::merging::{merge_of, open_streams};
+use crate::names::copy_text;
 use crate::seen::{SeenEdges, SeenSink, open_sink};
 use crate::supply::Supply;
 use pipe_edges::{ByteSink, ByteSource, EdgeEnd, Edges, LineSource};
@@ -30,19 +32,19 @@ pub enum Unopened {
     OutOfMemory,
 }
 
-/// Gives a body its source.
+/// Gives a body its source, or its merge.
 fn set_source<S: ByteSource + Drop, K: ByteSink, B: Houses<S, K>>(
     bodies: &mut Vec<Option<B>>,
     at: usize,
-    lines: LineSource<S>,
+    feed: Feed<S>,
 )
     ensures len { length bodies.new.items ≡ length bodies.old.items }
     ensures others { (s : ℕ) → body_at B.look bodies.new.items s
-        ≡ (if at == s then option_map (with_source (Single (line_seen S.ByteSource lines))) (body_at B.look bodies.old.items s) else body_at B.look bodies.old.items s) }
+        ≡ (if at == s then option_map (with_source (feed_seen S.ByteSource feed)) (body_at B.look bodies.old.items s) else body_at B.look bodies.old.items s) }
 {
     if let Some(body) = take_out(bodies, at) {
         let mut body = body;
-        body.put_source(Feed::Lines(lines));
+        body.put_source(feed);
         put_back(bodies, at, body);
     }
 }
@@ -64,9 +66,73 @@ fn set_sink<S: ByteSource, K: ByteSink + Drop, B: Houses<S, K>>(
     }
 }
 
-/// Supplies a producer with its source, in this gate, into the body at this place. For want of memory the source goes back, as far
-/// as there is memory for that.
+/// Supplies a producer with its one source, in this gate, into the body at this place. For want of memory the source goes back, as
+/// far as there is memory for that.
 fn supply_source_into<E: Edges, S: Supply<E>, B: Houses<GatedSource<S::Source>, E::Sink>>(
+    alloc: Global,
+    supply: &S,
+    spec: &StageSpec,
+    gate: Option<Gate>,
+    at: usize,
+    bodies: &mut Vec<Option<B>>,
+    edges: &mut E,
+) -> Result<(), Unopened>
+    requires single { merge_count (S.feeds supply.now spec.now) ≡ None }
+    requires begun { IfSome gate (λ g. (moment_of g ≡ 0) × (given_of g ≡ 0)) }
+    requires home { IsSome (S.feeds supply.now spec.now) → IsSome (body_at B.look bodies.old.items at) }
+    ensures opens { OpensOne (fed (option_map pace_of gate) (S.feeds supply.now spec.now)) at result (⟦<E as SeenEdges>⟧.seen edges.old) (⟦<E as SeenEdges>⟧.seen edges.new) (body_at B.look bodies.old.items) (body_at B.look bodies.new.items) }
+    ensures same { OnErr result (bodies.new.items ≡ bodies.old.items) }
+    ensures len { length bodies.new.items ≡ length bodies.old.items }
+{
+    match supply.supply(alloc, spec, 0, edges) {
+        Ok(Some(source)) => match gated_lines(alloc, source, gate) {
+            Ok(lines) => {
+                set_source(bodies, at, Feed::Lines(lines));
+                Ok(())
+            }
+            Err((source, _)) => {
+                let _ = supply.take_back(spec, 0, source, edges);
+                Err(Unopened::OutOfMemory)
+            }
+        },
+        Ok(None) => Ok(()),
+        Err(unopened) => Err(unopened),
+    }
+}
+
+/// Supplies a producer with the merge of so many sources, into the body at this place. What was opened before one of them that
+/// cannot be opened goes back.
+fn supply_merge_into<E: Edges, S: Supply<E>, B: Houses<GatedSource<S::Source>, E::Sink>>(
+    alloc: Global,
+    supply: &S,
+    spec: &StageSpec,
+    count: usize,
+    at: usize,
+    bodies: &mut Vec<Option<B>>,
+    edges: &mut E,
+) -> Result<(), Unopened>
+    requires merged { merge_count (S.feeds supply.now spec.now) ≡ Some count }
+    requires some { 2 ≤ count }
+    requires few { count ≤ 64 }
+    requires home { IsSome (body_at B.look bodies.old.items at) }
+    ensures opens { (pace : Option Pace) → OpensOne (fed pace (S.feeds supply.now spec.now)) at result (⟦<E as SeenEdges>⟧.seen edges.old) (⟦<E as SeenEdges>⟧.seen edges.new) (body_at B.look bodies.old.items) (body_at B.look bodies.new.items) }
+    ensures same { OnErr result (bodies.new.items ≡ bodies.old.items) }
+    ensures len { length bodies.new.items ≡ length bodies.old.items }
+{
+    match open_streams(alloc, supply, spec, count, edges) {
+        Ok(sources) => match merge_of(alloc, supply, spec, sources, edges) {
+            Ok(merge) => {
+                set_source(bodies, at, Feed::Merge(merge));
+                Ok(())
+            }
+            Err(_) => Err(Unopened::OutOfMemory),
+        },
+        Err(unopened) => Err(unopened),
+    }
+}
+
+/// Supplies a producer with its source, or its merge, into the body at this place. A merge stands in no gate.
+fn supply_into<E: Edges, S: Supply<E>, B: Houses<GatedSource<S::Source>, E::Sink>>(
     alloc: Global,
     supply: &S,
     spec: &StageSpec,
@@ -81,19 +147,9 @@ fn supply_source_into<E: Edges, S: Supply<E>, B: Houses<GatedSource<S::Source>, 
     ensures same { OnErr result (bodies.new.items ≡ bodies.old.items) }
     ensures len { length bodies.new.items ≡ length bodies.old.items }
 {
-    match supply.supply(alloc, spec, edges) {
-        Ok(Some(source)) => match gated_lines(alloc, source, gate) {
-            Ok(lines) => {
-                set_source(bodies, at, lines);
-                Ok(())
-            }
-            Err((source, _)) => {
-                let _ = supply.take_back(spec, source, edges);
-                Err(Unopened::OutOfMemory)
-            }
-        },
-        Ok(None) => Ok(()),
-        Err(unopened) => Err(unopened),
+    match supply.merged(spec) {
+        Some(count) => supply_merge_into(alloc, supply, spec, count, at, bodies, edges),
+        None => supply_source_into(alloc, supply, spec, gate, at, bodies, edges),
     }
 }
 
@@ -110,7 +166,7 @@ fn open_sink_into<E: Edges, P: ByteSource, B: Houses<P, E::Sink>>(
     ensures same { OnErr result (bodies.new.items ≡ bodies.old.items) }
     ensures len { length bodies.new.items ≡ length bodies.old.items }
 {
-    let Ok(sink_name) = copy_text(alloc, name) else {
+    let Ok(sink_name) = copy_text(alloc, name.as_str()) else {
         return Err(Unopened::OutOfMemory);
     };
     match open_sink(name, edges) {
@@ -146,7 +202,7 @@ fn open_stage<E: Edges, S: Supply<E>, B: Houses<GatedSource<S::Source>, E::Sink>
     match spec.role {
         Role::Producer => {
             let gate = gate_at(&topology.rate, producers, spec.index);
-            supply_source_into(alloc, supply, spec, gate, at, bodies, edges)
+            supply_into(alloc, supply, spec, gate, at, bodies, edges)
         }
         Role::BatchProcessor => match &spec.edge {
             Some(name) => open_sink_into(alloc, name, at, bodies, edges),

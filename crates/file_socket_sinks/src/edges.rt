@@ -1,9 +1,10 @@
 //! What the system has by name.
 
 ghost use Rattle.std.specs.Prelude.{◌≡◌, ◌≤◌, [], false, ℕ, List};
-ghost use Rattle.pipe_edges.specs.Named.{AddsBack, EdgeHasCause};
+ghost use Rattle.pipe_edges.specs.Named.{AddsBack, EdgeHasCause, KeepsBack};
 ghost use Rattle.file_socket_sinks.specs.{Back.{given_in}, Came.{OpenCameTo}};
 
+use crate::arrivals::Noted;
 use crate::opened::OpenFiles;
 use crate::output::{RealOut, Writer};
 use crate::source::{Reader, RealSource};
@@ -14,6 +15,7 @@ use std::alloc::{AllocError, Global};
 use std::fs::File;
 use std::io;
 use std::io::{ErrorKind, Read};
+use std::os::fd::AsRawFd;
 
 /// Something that was given back, with its name.
 #[derive(Drop)]
@@ -62,6 +64,7 @@ pub struct RealEdges {
     rt: HostRuntime,
     faults: u64,
     opened: OpenFiles,
+    noted: Noted,
     sources: Vec<GivenBack<RealSource<Reader>>>,
     sinks: Vec<GivenBack<RealOut<Writer>>>,
 }
@@ -76,9 +79,18 @@ impl RealEdges {
             rt: *rt,
             faults: 0,
             opened: OpenFiles::new(rt.alloc()),
+            noted: Noted::none(),
             sources: Vec::new(rt.alloc()),
             sinks: Vec::new(rt.alloc()),
         }
+    }
+
+    // Notes there the streams that are opened from now on and whose reads do not wait.
+    pub(crate) fn note_in(&mut self, noted: Noted)
+        ensures faults { ⟦<RealEdges as Edges>⟧.faults self.new ≡ ⟦<RealEdges as Edges>⟧.faults self.old }
+        ensures back { KeepsBack ⟦<RealEdges as Edges>⟧.sources_back ⟦<RealEdges as Edges>⟧.sinks_back self.old self.new }
+    {
+        self.noted = noted;
     }
 
     fn bytes_of(&self, path: &str) -> io::Result<Bytes> {
@@ -116,11 +128,13 @@ impl Edges for RealEdges {
 
     fn open_control(&mut self, name: &Text) -> Result<RealSource<Reader>, EdgeEnd> {
         let reader = Reader::open(&self.rt, &mut self.opened, name.as_str(), OF_CONTROL);
-        Ok(RealSource::new(count(&mut self.faults, reader)?))
+        let reader = count(&mut self.faults, reader)?;
+        self.noted.add(reader.as_raw_fd());
+        Ok(RealSource::new(reader))
     }
 
     fn open_stream(&mut self, name: &Text) -> Result<RealSource<Reader>, EdgeEnd> {
-        let reader = Reader::open_stream(&self.rt, &mut self.opened, name.as_str());
+        let reader = Reader::open_stream(&self.rt, &mut self.opened, &self.noted, name.as_str());
         Ok(RealSource::new(count(&mut self.faults, reader)?))
     }
 

@@ -2,11 +2,12 @@
 //!
 //! `RealEdges` opens sources and sinks by name, each file once, counts each failure before it answers it, and keeps
 //! what is given back until it is dropped. `take_closed_streams` comes first in a program: what is opened later then
-//! never stands where a standard stream is looked for. No object tells its bytes: what a file or a connection holds, and that a peer gets anything, is
+//! never stands where a standard stream is looked for. `RealClock::woken_by` makes the clock whose pauses end when something arrives. No object tells its bytes: what a file or a connection holds, and that a peer gets anything, is
 //! not claimed. `pipeline_prog` passes them to its run:
 //! `run_program(rt, alloc, &words, stock, &mut edges, clock, &mut out, &mut err)`.
 #![tactic(auto)]
 
+mod arrivals;
 mod clock;
 mod edges;
 mod names;

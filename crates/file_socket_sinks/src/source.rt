@@ -3,9 +3,10 @@
 ghost use Rattle.std.specs.{Prelude.{◌≡◌, ◌≢◌, [], false, ℕ, List, length, IfOk, IfErr}, Io.{ReadsAtMost}, IoError.{error_kind}};
 ghost use Rattle.file_socket_sinks.specs.{Came.{ReadCameTo}, Names.{IsSourceName}};
 
+use crate::arrivals::Noted;
 use crate::names::SourceName;
 use crate::opened::OpenFiles;
-use crate::waits::{OF_MERGES, Patience, Waits};
+use crate::waits::{OF_STREAMS, Patience, Waits};
 use pipe_edges::{ByteSource, ReadEnd};
 use std::fs::File;
 use std::io;
@@ -13,12 +14,12 @@ use std::io::{ErrorKind, Read, Stdin};
 use std::net::{TcpListener, TcpStream};
 use std::os::fd::{AsRawFd, RawFd};
 
-/// A file, a connection or standard input.
+/// A file, a connection or standard input. A listener becomes the connection of the peer that comes first.
 #[derive(Drop)]
 enum Stream {
     File(File),
     Connection(TcpStream),
-    Listener(TcpListener),
+    Listener(TcpListener, Noted),
     Input(Stdin),
 }
 
@@ -27,7 +28,7 @@ impl AsRawFd for Stream {
         match self {
             Stream::File(file) => file.as_raw_fd(),
             Stream::Connection(stream) => stream.as_raw_fd(),
-            Stream::Listener(listener) => listener.as_raw_fd(),
+            Stream::Listener(listener, _) => listener.as_raw_fd(),
             Stream::Input(input) => input.as_raw_fd(),
         }
     }
@@ -38,17 +39,36 @@ impl Read for Stream {
         match self {
             Stream::File(file) => file.read(piece),
             Stream::Connection(stream) => stream.read(piece),
-            Stream::Listener(_) => Err(io::Error::from(ErrorKind::WouldBlock)),
+            Stream::Listener(listener, noted) => {
+                let mut connection = meet(listener)?;
+                noted.add(connection.as_raw_fd());
+                let read = connection.read(piece);
+                *self = Stream::Connection(connection);
+                read
+            }
             Stream::Input(input) => input.read(piece),
         }
     }
 }
 
+// The connection of the peer that came first, where one came and is not gone again; else it is `WouldBlock`.
+fn meet(listener: &TcpListener) -> io::Result<TcpStream> {
+    match listener.accept() {
+        Ok((connection, _)) => {
+            connection.set_nonblocking(true)?;
+            Ok(connection)
+        }
+        Err(e) if e.kind() == ErrorKind::ConnectionAborted => {
+            Err(io::Error::from(ErrorKind::WouldBlock))
+        }
+        Err(e) => Err(e),
+    }
+}
+
 /// A file, a connection or standard input, of which a read waits no longer than its patience lasts: then it is
-/// `WouldBlock`. A regular file is read at once. A listener becomes the connection of its first peer.
+/// `WouldBlock`. A regular file is read at once.
 #[derive(Drop)]
 pub struct Reader {
-    rt: HostRuntime,
     stream: Stream,
     waits: Option<Waits>,
 }
@@ -78,38 +98,49 @@ impl Reader {
             Some(SourceName::Listen(own)) => Stream::Connection(own.accept(rt)?),
             None => return Err(io::Error::from(ErrorKind::InvalidInput)),
         };
-        Reader::of(rt, stream, patience)
+        let waits = Waits::new(rt, stream.as_raw_fd(), patience)?;
+        Ok(Reader { stream, waits })
     }
 
-    /// Opens what the name of one of the sources of a merge says. A listener's peer is not waited for: a later read accepts it.
-    pub fn open_stream(rt: &HostRuntime, opened: &mut OpenFiles, name: &str) -> io::Result<Reader>
+    /// Opens what the name of one of several sources that are read in turn says, and notes it. No read waits, nor does it wait
+    /// for the peer of a listener, which a later read accepts.
+    pub fn open_stream(
+        rt: &HostRuntime,
+        opened: &mut OpenFiles,
+        noted: &Noted,
+        name: &str,
+    ) -> io::Result<Reader>
         ensures { IfOk result (λ _. IsSourceName name.now) }
     {
-        match SourceName::parse(name) {
-            Some(SourceName::Listen(own)) => {
-                Reader::of(rt, Stream::Listener(own.listen(rt)?), OF_MERGES)
-            }
-            _ => Reader::open(rt, opened, name, OF_MERGES),
-        }
+        let reader = match SourceName::parse(name) {
+            Some(SourceName::Listen(own)) => Reader::listening(own.listen(rt)?, noted)?,
+            Some(SourceName::Connect(peer)) => Reader::connected(peer.connect(rt)?)?,
+            _ => Reader::open(rt, opened, name, OF_STREAMS)?,
+        };
+        noted.add(reader.as_raw_fd());
+        Ok(reader)
     }
 
-    fn of(rt: &HostRuntime, stream: Stream, patience: Patience) -> io::Result<Reader> {
-        let waits = Waits::new(rt, stream.as_raw_fd(), patience)?;
+    fn listening(listener: TcpListener, noted: &Noted) -> io::Result<Reader> {
+        listener.set_nonblocking(true)?;
         Ok(Reader {
-            rt: *rt,
-            stream,
-            waits,
+            stream: Stream::Listener(listener, noted.share()),
+            waits: None,
         })
     }
 
-    // Takes the peer that waits at a listener, where one does.
-    fn meet(&mut self) -> io::Result<()> {
-        if let Stream::Listener(listener) = &self.stream {
-            let (connection, _) = listener.accept()?;
-            self.waits = Waits::new(&self.rt, connection.as_raw_fd(), OF_MERGES)?;
-            self.stream = Stream::Connection(connection);
-        }
-        Ok(())
+    fn connected(connection: TcpStream) -> io::Result<Reader> {
+        connection.set_nonblocking(true)?;
+        Ok(Reader {
+            stream: Stream::Connection(connection),
+            waits: None,
+        })
+    }
+}
+
+impl AsRawFd for Reader {
+    fn as_raw_fd(&self) -> RawFd {
+        self.stream.as_raw_fd()
     }
 }
 
@@ -118,10 +149,6 @@ impl Read for Reader {
         if let Some(waits) = &mut self.waits
             && !waits.is_ready(self.stream.as_raw_fd())?
         {
-            return Err(io::Error::from(ErrorKind::WouldBlock));
-        }
-        if let Stream::Listener(_) = &self.stream {
-            self.meet()?;
             return Err(io::Error::from(ErrorKind::WouldBlock));
         }
         self.stream.read(piece)

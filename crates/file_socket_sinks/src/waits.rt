@@ -34,8 +34,8 @@ pub const OF_CONTROL: Patience = Patience {
     longest_ms: 0,
 };
 
-/// A reading of one of the sources of a merge never waits, since the others are read between its readings.
-pub const OF_MERGES: Patience = Patience {
+/// A reading of one of several sources never waits, since the others are read between its readings.
+pub const OF_STREAMS: Patience = Patience {
     first_ms: 0,
     longest_ms: 0,
 };

@@ -5,7 +5,7 @@ use Rattle.std.specs.List.{filter, sum_by}
 use Rattle.std.proofs.lemmas.List.Sums.{sum_by-cons}
 use Rattle.pipe_types.specs.Counts.{Rose}
 use Rattle.std.proofs.lemmas.List.{append-nil, length-append, map-append}
-use Rattle.std.proofs.lemmas.List.Elements.{filter-append, All-nil}
+use Rattle.std.proofs.lemmas.List.Elements.{filter-append, All-nil, All-cons, All-append}
 use Rattle.std.proofs.lemmas.Bool.Decides.{nat_tests}
 use Rattle.pipe_edges.specs.Texts.{IsLine}
 use Rattle.std.proofs.lemmas.Option.{slice_get_within, slice_get-map}
@@ -49,12 +49,38 @@ both_seen source given more k None None (Some b) read gives = absurd gives
 abbrev seen_by : {B : Type 0} → SourceOf B → List (Stream B) → Option MergeEnd → MergeSeen
 seen_by source streams end = record { streams = map (seen_of source) streams; end = end_seen end }
 
+-- each has the place of one of the sources
+abbrev ArePlaced : List SourceSeen → List (ℕ × List ℕ) → Type 0
+ArePlaced opened given = All (λ d. d.0 < length opened) given
+
+pub none_placed : (opened : List SourceSeen) → ArePlaced opened []
+none_placed opened = All-nil (λ d. d.0 < length opened)
+
+-- what a round gives has the place of one of the sources
+pub found_placed : {B : Type 0} (source : SourceOf B) (first : ℕ) (opened : List SourceSeen) (old : List (Stream B)) (old_end : Option MergeEnd) (given : List (ℕ × List ℕ)) (new : ℕ → Option (Stream B)) (found : MergeItem)
+    → AreMergedFrom opened (seen_by source old old_end) given → RoundHasCause source first (slice_get old) new found → ArePlaced opened (given_of found)
+found_placed {B = B} source first opened old old_end given new (item.Line place line) m cause =
+    All-cons (λ d. d.0 < length opened) (place, line) []
+    (by (slice_get opened place) (slice_get old place) (new place) refl (rw (slice_get-map (seen_of source) old place) at (m.each place)) cause.here) (none_placed opened)
+  where
+    by : (x : Option SourceSeen) (y z : Option (Stream B)) → slice_get opened place ≡ x → Both (λ o lines. AreReadFrom o lines (lines_from place given)) x (option_map (seen_of source) y) → There WasOpen y z
+        → place < length opened
+    by (Some o) (Some a) z is read there = slice_get_within opened place o is
+    by (Some o) None z is read there = absurd there
+    by None (Some a) z is read there = absurd read
+    by None None z is read there = absurd there
+found_placed source first opened old old_end given new item.NotYet m cause = none_placed opened
+found_placed source first opened old old_end given new item.End m cause = none_placed opened
+found_placed source first opened old old_end given new (item.Fault place) m cause = none_placed opened
+found_placed source first opened old old_end given new (item.TooLong place) m cause = none_placed opened
+
 -- these lines follow
 pub merged_on : {B : Type 0} (source : SourceOf B) (opened : List SourceSeen) (old new : List (Stream B)) (old_end new_end : Option MergeEnd) (given more : List (ℕ × List ℕ))
     → ((k : ℕ) → Both (Gives source (lines_from k more)) (slice_get old k) (slice_get new k))
-    → IsMergeEnd (map (seen_of source) new) (end_seen new_end)
+    → IsMergeEnd (map (seen_of source) new) (end_seen new_end) → ArePlaced opened more
     → AreMergedFrom opened (seen_by source old old_end) given → AreMergedFrom opened (seen_by source new new_end) (given ++ more)
-merged_on source opened old new old_end new_end given more gives known m = record {
+merged_on source opened old new old_end new_end given more gives known placed m = record {
+  placed = All-append (λ d. d.0 < length opened) given more m.placed placed;
   each = λ k.
       rw (slice_get-map (seen_of source) new k)
       (both_seen source given more k (slice_get opened k) (slice_get old k) (slice_get new k) (rw (slice_get-map (seen_of source) old k) at (m.each k)) (gives k));

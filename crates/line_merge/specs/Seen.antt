@@ -1,5 +1,5 @@
 -- What contracts see of a merge: plain data.
-use Rattle.std.specs.Prelude.{◌≡◌, ℕ, List, ◌++◌, map, slice_get, Option, Some, None, IfSome, IsSomeAnd}
+use Rattle.std.specs.Prelude.{◌≡◌, ◌<◌, ℕ, List, ◌++◌, length, map, slice_get, All, Option, Some, None, IfSome, IsSomeAnd}
 use Rattle.std.specs.List.{sum_by}
 use Rattle.pipe_edges.specs.declared.source.ByteSource.{Ghosts as SourceOf}
 use Rattle.pipe_edges.specs.Paces.{unpaced}
@@ -41,9 +41,10 @@ IsMergeEnd streams None = Unit {0}
 IsMergeEnd streams (Some line_end.End) = (k : ℕ) → IfSome (slice_get streams k) (λ lines. lines.end ≡ Some line_end.End)
 IsMergeEnd streams (Some e) = (k : ℕ) × IsSomeAnd (slice_get streams k) (λ lines. lines.end ≡ Some e)
 
--- the lines with their places came from what the opened sources had left: of each place they are, in order, what was read of
--- its source
+-- the lines with their places came from what the opened sources had left: each has the place of one of them, and of each place
+-- they are, in order, what was read of its source
 pub record AreMergedFrom (opened : List SourceSeen) (now : MergeSeen) (given : List (ℕ × List ℕ)) : Type 0 where
+  pub placed : All (λ d. d.0 < length opened) given
   pub each : (k : ℕ) → Both (λ o lines. AreReadFrom o lines (lines_from k given)) (slice_get opened k) (slice_get now.streams k)
   pub known : IsMergeEnd now.streams now.end
 

@@ -16,21 +16,22 @@ use Rattle.pipe_model.specs.History.{History}
 use Rattle.pipe_model.specs.Legal.{is_legal, has_role, is_producer_role, is_batch_processor_role}
 use Rattle.pipe_model.specs.Posts.{is_out}
 use Rattle.stage_laws.proofs.Numbering.{numbered_topology}
-use Rattle.stage_bodies.specs.Seen.{SourceSeen, SinkSeen, LineSeen, FeedSeen, Single, Merged, BodySeen}
+use Rattle.stage_bodies.specs.Seen.{SinkSeen, FeedSeen, Single, Merged as MergedSeen, sources_out, BodySeen}
 use Rattle.stage_bodies.specs.Jobs.{Both}
 use Rattle.stage_bodies.specs.Posts.{place_at}
-use Rattle.body_laws.specs.Keeps.{Keeps, KeepsPost, KeepsSource, KeepsFeed, KeepsSink, has_slot}
+use Rattle.body_laws.specs.Keeps.{Keeps, KeepsPost, KeepsFeed, KeepsSink, has_slot}
 use Rattle.body_laws.specs.Ready.{There}
 use Rattle.body_laws.proofs.Posts.{first_post, producer_post}
-use Rattle.edge_names.specs.Supplies.{Feeds, Feed, Supplied, Fed, Written, fed, supplied, supplied_by, written}
+use Rattle.edge_names.specs.Supplies.{Feeds, Feed, Opened, Merged, Made, Supplied, Fed, Written, fed, supplied, supplied_by, written}
 use Rattle.pipe_edges.specs.Paces.{Pace}
 use Rattle.edge_names.specs.Seen.{EdgesSeen}
 use Rattle.edge_names.specs.Named.{GivesSink}
-use Rattle.edge_names.specs.Opened.{AreHome, AreOpened, GivesFed, IsOpened, supplied_in}
-use Rattle.edge_names.specs.Returned.{AreCalm, IsCalm, one_source, source_in, sink_in}
-use Rattle.edge_names.proofs.Openings.{opened_stage, given_feed, given_sink}
+use Rattle.edge_names.specs.Opened.{AreHome, AreOpened, HasFeed, IsOpened, supplied_in}
+use Rattle.edge_names.specs.Returned.{AreCalm, IsCalm, feed_in, one_source, source_in, sink_in}
+use Rattle.edge_names.proofs.Openings.{opened_stage, given_sink}
 use Rattle.pipe_run.specs.Outside.{AreUsed, IsFedRead, IsSinkWritten}
-use Rattle.pipe_run.proofs.Sources.{fed_read}
+use Rattle.pipe_run.proofs.Merges.{merge_read, merge_unpaced}
+use Rattle.pipe_run.proofs.Sources.{line_read}
 use Rattle.pipe_run.proofs.Sinks.{sink_written}
 
 -- ---- the stage that is supplied
@@ -47,7 +48,7 @@ stage_of feeds topology s what e = by (spec_of topology s) refl e
     by None is e = cc
     by (Some spec) is e = record { spec = spec; found = is; fits = e }
 
-abbrev is_fed : Option Supplied → Bool
+abbrev pub is_fed : Option Supplied → Bool
 is_fed (Some (Fed pace feed)) = true
 is_fed (Some (Written name)) = false
 is_fed None = false
@@ -57,7 +58,7 @@ is_written (Some (Written name)) = true
 is_written (Some (Fed pace feed)) = false
 is_written None = false
 
-written_not_fed : (edge : Option (List ℕ)) → is_fed (written edge) ≡ false
+pub written_not_fed : (edge : Option (List ℕ)) → is_fed (written edge) ≡ false
 written_not_fed (Some name) = refl
 written_not_fed None = refl
 
@@ -100,17 +101,23 @@ some_from P None h = absurd h
 there_at : {A : Type 0} (P : A → Type 0) (o : Option A) (x : A) → o ≡ Some x → P x → There o P
 there_at P o x e h = subst (λ z. There z P) (sym e) h
 
-record IsSourceOpened (edges : EdgesSeen) (pace : Option Pace) (feed : Feed) (body : Option BodySeen) : Type 0 where
-  pub lines : LineSeen
-  pub has : There body (λ b. b.source ≡ Some (Single lines))
-  pub gives : GivesFed edges pace feed lines
+-- what stands in the body of a producer
+record IsFeedOpened (edges : EdgesSeen) (pace : Option Pace) (feed : Feed) (body : Option BodySeen) : Type 0 where
+  pub seen : FeedSeen
+  pub has : There body (λ b. b.source ≡ Some seen)
+  pub gives : HasFeed edges (Some (Fed pace feed)) None (Some seen)
 
-source_opened : (edges : EdgesSeen) (pace : Option Pace) (feed : Feed) (x y : Option BodySeen) → IsSome x → Both (IsOpened edges (Some (Fed pace feed))) x y → IsSourceOpened edges pace feed y
-source_opened edges pace feed (Some a) (Some b) some h =
-    let g = given_feed edges pace feed a.source b.source h.source in
-    record { lines = g.0; has = g.1; gives = g.2 }
-source_opened edges pace feed (Some a) None some h = absurd h
-source_opened edges pace feed None y some h = let x : false ≡ true = some in cc
+given_at : (edges : EdgesSeen) (pace : Option Pace) (feed : Feed) (b : BodySeen) (old new : Option FeedSeen) → b.source ≡ new → HasFeed edges (Some (Fed pace feed)) old new → IsFeedOpened edges pace feed (Some b)
+given_at edges pace feed b old (Some (Single lines)) is h = record { seen = Single lines; has = is; gives = h }
+given_at edges pace (Merged names) b old (Some (MergedSeen merge)) is h = record { seen = MergedSeen merge; has = is; gives = h }
+given_at edges pace (Opened name) b old (Some (MergedSeen merge)) is h = absurd h
+given_at edges pace (Made bytes) b old (Some (MergedSeen merge)) is h = absurd h
+given_at edges pace feed b old None is h = absurd h
+
+feed_opened : (edges : EdgesSeen) (pace : Option Pace) (feed : Feed) (x y : Option BodySeen) → IsSome x → Both (IsOpened edges (Some (Fed pace feed))) x y → IsFeedOpened edges pace feed y
+feed_opened edges pace feed (Some a) (Some b) some h = given_at edges pace feed b a.source b.source refl h.source
+feed_opened edges pace feed (Some a) None some h = absurd h
+feed_opened edges pace feed None y some h = let x : false ≡ true = some in cc
 
 record IsSinkOpened (edges : EdgesSeen) (name : List ℕ) (body : Option BodySeen) : Type 0 where
   pub sink : SinkSeen
@@ -126,55 +133,40 @@ sink_opened edges name None y some h = let x : false ≡ true = some in cc
 
 -- ---- what became of it
 
-record IsSourceKept (before : History) (s : StageNo) (out : Bool) (opened : LineSeen) (body : Option BodySeen) : Type 0 where
-  pub now : LineSeen
-  pub is : source_in body ≡ Some now.source
+record IsFeedKept (before : History) (s : StageNo) (out : Bool) (opened : FeedSeen) (body : Option BodySeen) : Type 0 where
+  pub now : FeedSeen
+  pub is : feed_in body ≡ Some now
   pub full : Bool
   pub lost : List (List ℕ)
   pub in_fetch : (lost ≡ []) ⊎ (out ≡ true)
-  pub keeps : KeepsSource before s full lost opened now
+  pub keeps : KeepsFeed before s full lost opened now
 
-single_then : (before : History) (s : StageNo) (whole : Bool) (lost : List (List ℕ)) (lines : LineSeen) (now : FeedSeen) → KeepsFeed before s whole lost (Single lines) now → (kept : LineSeen) × (now ≡ Single kept) × KeepsSource before s whole lost lines kept
-single_then before s whole lost lines (Single kept) h = (kept, refl, h)
-single_then before s whole lost lines (Merged merge) h = absurd h
+feed_whole : (before : History) (s : StageNo) (out : Bool) (opened : FeedSeen) (c : BodySeen) (x y : Option FeedSeen) → x ≡ Some opened → c.source ≡ y → Both (KeepsFeed before s true []) x y → IsFeedKept before s out opened (Some c)
+feed_whole before s out opened c (Some a) (Some now) e is h =
+    let same : a ≡ opened = cc in
+    record { now = now; is = is; full = true; lost = []; in_fetch = inl refl; keeps = subst (λ z. KeepsFeed before s true [] z now) same h }
+feed_whole before s out opened c (Some a) None e is h = absurd h
+feed_whole before s out opened c None y e is h = cc
 
-source_whole : (before : History) (s : StageNo) (out : Bool) (lines : LineSeen) (c : BodySeen) (x y : Option FeedSeen) → x ≡ Some (Single lines) → c.source ≡ y → Both (KeepsFeed before s true []) x y → IsSourceKept before s out lines (Some c)
-source_whole before s out lines c (Some a) (Some feed) e is h =
-    let same : a ≡ Single lines = cc in
-    let kept = single_then before s true [] lines feed (subst (λ z. KeepsFeed before s true [] z feed) same h) in
-    record {
-      now = kept.0;
-      is = ap one_source (is ∙ ap Some kept.1);
-      full = true;
-      lost = [];
-      in_fetch = inl refl;
-      keeps = kept.2;
-    }
-source_whole before s out lines c (Some a) None e is h = absurd h
-source_whole before s out lines c None y e is h = cc
+feed_partly : (before : History) (s : StageNo) (opened : FeedSeen) (c : BodySeen) (x y : Option FeedSeen) → x ≡ Some opened → c.source ≡ y
+    → Both (λ old new. (lost : List (List ℕ)) × KeepsFeed before s false lost old new) x y → IsFeedKept before s true opened (Some c)
+feed_partly before s opened c (Some a) (Some now) e is h =
+    let same : a ≡ opened = cc in
+    record { now = now; is = is; full = false; lost = h.0; in_fetch = inr refl; keeps = subst (λ z. KeepsFeed before s false h.0 z now) same h.1 }
+feed_partly before s opened c (Some a) None e is h = absurd h
+feed_partly before s opened c None y e is h = cc
 
-source_partly : (before : History) (s : StageNo) (lines : LineSeen) (c : BodySeen) (x y : Option FeedSeen) → x ≡ Some (Single lines) → c.source ≡ y
-    → Both (λ old new. (lost : List (List ℕ)) × KeepsFeed before s false lost old new) x y → IsSourceKept before s true lines (Some c)
-source_partly before s lines c (Some a) (Some feed) e is h =
-    let same : a ≡ Single lines = cc in
-    let kept = single_then before s false h.0 lines feed (subst (λ z. KeepsFeed before s false h.0 z feed) same h.1) in
-    record {
-      now = kept.0;
-      is = ap one_source (is ∙ ap Some kept.1);
-      full = false;
-      lost = h.0;
-      in_fetch = inr refl;
-      keeps = kept.2;
-    }
-source_partly before s lines c (Some a) None e is h = absurd h
-source_partly before s lines c None y e is h = cc
+feed_kept : (topology : Topology) (before : History) (p : Post) (out : Bool) (opened : FeedSeen) (o n : Option BodySeen) → There o (λ b. b.source ≡ Some opened) → IsSome n → KeepsPost topology before p out o n → IsFeedKept before p.stage out opened n
+feed_kept topology before p false opened (Some b) (Some c) has some k = feed_whole before p.stage false opened c b.source c.source has refl k.source
+feed_kept topology before p true opened (Some b) (Some c) has some (inl none) = cc
+feed_kept topology before p true opened (Some b) (Some c) has some (inr k) = feed_partly before p.stage opened c b.source c.source has refl k.source
+feed_kept topology before p out opened (Some b) None has some k = let x : false ≡ true = some in cc
+feed_kept topology before p out opened None n has some k = absurd has
 
-source_kept : (topology : Topology) (before : History) (p : Post) (out : Bool) (lines : LineSeen) (o n : Option BodySeen) → There o (λ b. b.source ≡ Some (Single lines)) → IsSome n → KeepsPost topology before p out o n → IsSourceKept before p.stage out lines n
-source_kept topology before p false lines (Some b) (Some c) has some k = source_whole before p.stage false lines c b.source c.source has refl k.source
-source_kept topology before p true lines (Some b) (Some c) has some (inl none) = cc
-source_kept topology before p true lines (Some b) (Some c) has some (inr k) = source_partly before p.stage lines c b.source c.source has refl k.source
-source_kept topology before p out lines (Some b) None has some k = let x : false ≡ true = some in cc
-source_kept topology before p out lines None n has some k = absurd has
+-- the source that is there, if it is one
+source_of_feed : (body : Option BodySeen) → source_in body ≡ one_source (feed_in body)
+source_of_feed None = refl
+source_of_feed (Some body) = refl
 
 record IsSinkKept (topology : Topology) (before : History) (s : StageNo) (opened : SinkSeen) (body : Option BodySeen) : Type 0 where
   pub now : SinkSeen
@@ -198,11 +190,31 @@ sink_kept topology before p true sink (Some b) (Some c) has some (inr k) = sink_
 sink_kept topology before p out sink (Some b) None has some k = let x : false ≡ true = some in cc
 sink_kept topology before p out sink None n has some k = absurd has
 
+-- ---- by what was supplied
+
+feed_read : (whole : Bool) (topology : Topology) (before : History) (s : StageNo) (full : Bool) (lost : List (List ℕ)) (edges : EdgesSeen) (pace : Option Pace) (feed : Feed) (opened now : FeedSeen) → is_legal topology before ≡ true → has_role topology s is_producer_role ≡ true → same_stage s (stage 0) ≡ false
+    → (lost ≡ []) ⊎ (is_out before (post s 0) ≡ true) → ((names : List (List ℕ)) → feed ≡ Merged names → pace ≡ None) → HasFeed edges (Some (Fed pace feed)) None (Some opened) → KeepsFeed before s full lost opened now
+    → (IsTrue whole → IsCalm (Some (Fed pace feed)) (one_source (Some now))) → IsFedRead whole edges before s pace feed (sources_out now)
+feed_read whole topology before s full lost edges pace feed (Single opened) (Single now) legal role own in_fetch unmerged gives k calm = line_read whole topology before s full lost edges pace feed opened now legal role own in_fetch gives k calm
+feed_read whole topology before s full lost edges pace (Merged names) (MergedSeen opened) (MergedSeen now) legal role own in_fetch unmerged gives k calm = record {
+  read = merge_read topology before s lost edges names opened now legal role own in_fetch gives k;
+  pace = (unmerged names refl, merge_unpaced now k.unpaced);
+}
+feed_read whole topology before s full lost edges pace (Opened name) (MergedSeen opened) now legal role own in_fetch unmerged gives k calm = absurd gives
+feed_read whole topology before s full lost edges pace (Made bytes) (MergedSeen opened) now legal role own in_fetch unmerged gives k calm = absurd gives
+feed_read whole topology before s full lost edges pace feed (Single opened) (MergedSeen now) legal role own in_fetch unmerged gives k calm = absurd k
+feed_read whole topology before s full lost edges pace (Merged names) (MergedSeen opened) (Single now) legal role own in_fetch unmerged gives k calm = absurd k
+
 -- ---- all
+
+-- a merge has no pace
+abbrev pub AreUngated : Feeds → Type 0
+AreUngated feeds = (spec : StageSpec) (pace : Option Pace) (names : List (List ℕ)) → supplied feeds spec ≡ Some (Fed pace (Merged names)) → pace ≡ None
 
 -- a run of which the bodies keep the journal, after everything was opened
 pub record IsRunFrom (feeds : Feeds) (whole : Bool) (topology : Topology) (edges : EdgesSeen) (before : History) (table opened bodies : ℕ → Option BodySeen) : Type 0 where
   pub sound : IsSound topology
+  pub ungated : AreUngated feeds
   pub legal : is_legal topology before ≡ true
   pub home : AreHome feeds topology table
   pub opens : AreOpened feeds topology (length topology.stages) edges table opened
@@ -220,15 +232,16 @@ of_stage P s spec (x ∷ stages) found each = either (same_stage x.no s) found (
     either false is rest = rest is
 
 -- a source that was made, as it stands in the body of its stage
-calm_at : (feeds : Feeds) (topology : Topology) (s : StageNo) (spec : StageSpec) (what : Supplied) (bodies : ℕ → Option BodySeen) (source : SourceSeen) → spec_of topology s ≡ Some spec → spec.no ≡ s → supplied feeds spec ≡ Some what
-    → source_in (bodies (place_at (post s 0))) ≡ Some source → AreCalm feeds topology.stages bodies → IsCalm (Some what) (Some source)
-calm_at feeds topology s spec what bodies source found named fits is calm =
+calm_at : (feeds : Feeds) (topology : Topology) (s : StageNo) (spec : StageSpec) (what : Supplied) (bodies : ℕ → Option BodySeen) (now : FeedSeen) → spec_of topology s ≡ Some spec → spec.no ≡ s → supplied feeds spec ≡ Some what
+    → feed_in (bodies (place_at (post s 0))) ≡ Some now → AreCalm feeds topology.stages bodies → IsCalm (Some what) (one_source (Some now))
+calm_at feeds topology s spec what bodies now found named fits is calm =
     let own : IsCalm (supplied feeds spec) (source_in (bodies (place_at (post spec.no 0)))) = of_stage (λ x. IsCalm (supplied feeds x) (source_in (bodies (place_at (post x.no 0))))) s spec topology.stages found calm in
     let here : IsCalm (supplied feeds spec) (source_in (bodies (place_at (post s 0)))) = subst (λ t. IsCalm (supplied feeds spec) (source_in (bodies (place_at (post t 0))))) named own in
-    subst (λ o. IsCalm (Some what) o) is (subst (λ o. IsCalm o (source_in (bodies (place_at (post s 0))))) fits here)
+    let same : source_in (bodies (place_at (post s 0))) ≡ one_source (Some now) = source_of_feed (bodies (place_at (post s 0))) ∙ ap one_source is in
+    subst (λ o. IsCalm (Some what) o) same (subst (λ o. IsCalm o (source_in (bodies (place_at (post s 0))))) fits here)
 
 sources_used : (feeds : Feeds) (whole : Bool) (topology : Topology) (edges : EdgesSeen) (before : History) (table opened bodies : ℕ → Option BodySeen) → IsRunFrom feeds whole topology edges before table opened bodies
-    → (s : StageNo) (pace : Option Pace) (feed : Feed) → supplied_in feeds (spec_of topology s) ≡ Some (Fed pace feed) → There (source_in (bodies (place_at (post s 0)))) (IsFedRead whole edges before s pace feed)
+    → (s : StageNo) (pace : Option Pace) (feed : Feed) → supplied_in feeds (spec_of topology s) ≡ Some (Fed pace feed) → There (option_map sources_out (feed_in (bodies (place_at (post s 0))))) (IsFedRead whole edges before s pace feed)
 sources_used feeds whole topology edges before table opened bodies run s pace feed e =
     let at = place_at (post s 0) in
     let c = stage_of feeds topology s (Fed pace feed) e in
@@ -236,13 +249,14 @@ sources_used feeds whole topology edges before table opened bodies run s pace fe
     let role = role_at topology s c.spec is_producer_role c.found (source_role c.spec.role (feeds.pace c.spec) (feeds.origin c.spec) c.spec.edge pace feed c.fits) in
     let some : IsSome (supplied feeds c.spec) = subst (λ (o : Option Supplied). IsSome o) (sym c.fits) refl in
     let both = subst (λ o. Both (IsOpened edges o) (table at) (opened at)) c.fits (opened_stage feeds topology s c.spec edges table opened numbered c.found run.opens) in
-    let o = source_opened edges pace feed (table at) (opened at) (run.home s c.spec c.found some) both in
-    let there = run.stay at (some_from (λ b. b.source ≡ Some (Single o.lines)) (opened at) o.has) in
-    let kept = source_kept topology before (post s 0) (is_out before (post s 0)) o.lines (opened at) (bodies at) o.has there (run.keeps (post s 0) (first_post topology s is_producer_role producer_post role)) in
+    let o = feed_opened edges pace feed (table at) (opened at) (run.home s c.spec c.found some) both in
+    let there = run.stay at (some_from (λ b. b.source ≡ Some o.seen) (opened at) o.has) in
+    let kept = feed_kept topology before (post s 0) (is_out before (post s 0)) o.seen (opened at) (bodies at) o.has there (run.keeps (post s 0) (first_post topology s is_producer_role producer_post role)) in
     let own : same_stage s (stage 0) ≡ false = ne_eqb s.0 0 (λ zero. omega (arith, zero, (numbered.within s c.spec c.found).0)) in
-    there_at (IsFedRead whole edges before s pace feed) (source_in (bodies at)) kept.now.source kept.is
-    (fed_read whole topology before s kept.full kept.lost edges pace feed o.lines kept.now run.legal role own kept.in_fetch o.gives kept.keeps
-    (λ w. calm_at feeds topology s c.spec (Fed pace feed) bodies kept.now.source c.found (numbered.named s c.spec c.found) c.fits kept.is (run.calm w)))
+    there_at (IsFedRead whole edges before s pace feed) (option_map sources_out (feed_in (bodies at))) (sources_out kept.now) (ap (option_map sources_out) kept.is)
+    (feed_read whole topology before s kept.full kept.lost edges pace feed o.seen kept.now run.legal role own kept.in_fetch
+    (λ names is. run.ungated c.spec pace names (c.fits ∙ ap (λ f. Some (Fed pace f)) is)) o.gives kept.keeps
+    (λ w. calm_at feeds topology s c.spec (Fed pace feed) bodies kept.now c.found (numbered.named s c.spec c.found) c.fits kept.is (run.calm w)))
 
 sinks_used : (feeds : Feeds) (whole : Bool) (topology : Topology) (edges : EdgesSeen) (before : History) (table opened bodies : ℕ → Option BodySeen) → IsRunFrom feeds whole topology edges before table opened bodies
     → (s : StageNo) (name : List ℕ) → supplied_in feeds (spec_of topology s) ≡ Some (Written name) → There (sink_in (bodies (place_at (post s 0)))) (IsSinkWritten topology edges before s name)

@@ -1,4 +1,5 @@
 mod Sources
+mod Merges
 pub mod Records
 mod Sinks
 mod Controls
@@ -9,3 +10,4 @@ mod Calls
 mod Runs
 mod Wholes
 mod Rates
+mod Ungated

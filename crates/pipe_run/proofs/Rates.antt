@@ -1,6 +1,6 @@
 -- Where each source keeps its pace, the run keeps the rate.
 use Rattle.std.proofs.Common.{◌≡◌, ◌≤◌, ℕ, Bool, true, false, length, refl, ap, sym, ◌∙◌, subst, Option, Some, None}
-use Rattle.std.specs.Prelude.{IfSome, IsSome}
+use Rattle.std.specs.Prelude.{IfSome, IsSome, option_map}
 use Rattle.pipe_types.specs.Numbers.{post}
 use Rattle.pipe_types.specs.Sound.{IsSound, is_producer, producers}
 use Rattle.pipe_types.specs.Stages.{spec_of}
@@ -15,14 +15,14 @@ use Rattle.pipe_model.specs.Legal.{is_legal}
 use Rattle.pipe_edges.specs.Paces.{Pace}
 use Rattle.rate_laws.specs.Rates.{KeepsRate, KeepsShares, came_by, share_of}
 use Rattle.rate_laws.proofs.Laws.{keeps_rate}
-use Rattle.stage_bodies.specs.Seen.{SourceSeen, BodySeen}
+use Rattle.stage_bodies.specs.Seen.{SourcesSeen, OneSource, ManySources, sources_out, BodySeen}
 use Rattle.stage_bodies.specs.Posts.{place_at}
 use Rattle.body_laws.specs.Ready.{There}
 use Rattle.edge_names.specs.Seen.{EdgesSeen}
 use Rattle.edge_names.specs.Gates.{pace_by, pace_of_stage}
 use Rattle.edge_names.specs.Supplies.{Feed, Fed, FeedsProducers, Supplied, at_paces, fed, supplied, supplied_by}
 use Rattle.edge_names.specs.Opened.{supplied_in}
-use Rattle.edge_names.specs.Returned.{source_in}
+use Rattle.edge_names.specs.Returned.{feed_in}
 use Rattle.edge_names.proofs.Gating.{some_producer}
 use Rattle.pipe_run.specs.Outside.{AreUsed, IsFedRead}
 
@@ -33,9 +33,10 @@ producer_role Supervisor e = cc
 producer_role Batcher e = cc
 producer_role BatchProcessor e = cc
 
--- a source that is there and keeps a pace brings no more than its share
-within_share : (whole : Bool) (edges : EdgesSeen) (before : History) (p : StageNo) (pace : Pace) (feed : Feed) (o : Option SourceSeen) (i : ℕ) → There o (IsFedRead whole edges before p (Some pace) feed) → came_by p pace.interval i before ≤ pace.share
-within_share whole edges before p pace feed (Some source) i read = read.pace.0 i
+-- a source that is there and keeps a pace brings no more than its share; a merge has no pace
+within_share : (whole : Bool) (edges : EdgesSeen) (before : History) (p : StageNo) (pace : Pace) (feed : Feed) (o : Option SourcesSeen) (i : ℕ) → There o (IsFedRead whole edges before p (Some pace) feed) → came_by p pace.interval i before ≤ pace.share
+within_share whole edges before p pace feed (Some (OneSource source)) i read = read.pace.0 i
+within_share whole edges before p pace feed (Some (ManySources sources)) i read = let none : Some pace ≡ None = read.pace.0 in cc
 within_share whole edges before p pace feed None i read = absurd read
 
 share_kept : (origin : StageSpec → Option Feed) (whole : Bool) (topology : Topology) (edges : EdgesSeen) (before : History) (bodies : ℕ → Option BodySeen) (rate : Rate) → topology.rate ≡ Some rate → FeedsProducers origin topology
@@ -58,7 +59,7 @@ share_kept origin whole topology edges before bodies rate is feeds used p spec f
         ∙ ap (λ x. fed x (origin spec)) at
         ∙ ap (λ x. fed (Some pace) x) e
         in
-        within_share whole edges before p pace feed (source_in (bodies (place_at (post p 0)))) i (used.sources p (Some pace) feed mine)
+        within_share whole edges before p pace feed (option_map sources_out (feed_in (bodies (place_at (post p 0))))) i (used.sources p (Some pace) feed mine)
 
 pub rate_kept : (origin : StageSpec → Option Feed) (whole : Bool) (topology : Topology) (edges : EdgesSeen) (before : History) (bodies : ℕ → Option BodySeen) → IsSound topology → is_legal topology before ≡ true → FeedsProducers origin topology
     → AreUsed (at_paces topology origin) whole topology edges before bodies → IfSome topology.rate (λ rate. KeepsRate rate before)

@@ -1,18 +1,19 @@
 -- What a run and the giving back come to.
-use Rattle.std.proofs.Common.{◌≡◌, ℕ, suc, List, ◌++◌, length, Bool, true, false, not, arith, refl, sym, ◌∙◌, subst, inl, inr, Option, Some, None, Result, Ok, Err}
+use Rattle.std.proofs.Common.{◌≡◌, ℕ, suc, List, ◌++◌, take, length, Bool, true, false, not, arith, refl, sym, ◌∙◌, subst, inl, inr, Option, Some, None, Result, Ok, Err}
 use Rattle.std.specs.Prelude.{IsTrue, IsSome, IsSomeAnd, ◌&&◌, is_ok}
 use Rattle.std.specs.declared.alloc.AllocError.{AllocError}
-use Rattle.std.proofs.lemmas.List.{take_all}
+use Rattle.std.proofs.lemmas.List.{append-nil, take_all}
 use Rattle.pipe_types.specs.declared.topology.StageSpec.{StageSpec}
 use Rattle.pipe_types.specs.declared.topology.Topology.{Topology}
 use Rattle.pipe_model.specs.History.{History}
 use Rattle.pipe_model.specs.Legal.{happened, is_drain}
 use Rattle.pipe_model.specs.Moves.{jobs_out}
-use Rattle.stage_bodies.specs.Seen.{LineSeen, BodySeen}
+use Rattle.stage_bodies.specs.Seen.{SourceSeen, LineSeen, BodySeen}
 use Rattle.run_pipe.specs.Keeping.{KeepsControlOn, KeepsControlPartly}
 use Rattle.run_pipe.proofs.Kept.{kept_partly}
 use Rattle.run_pipe.specs.Clocks.{ClockSeen, KeepsClockOn, KeepsClockPartly}
-use Rattle.run_pipe.specs.Ends.{HasEnded}
+use Rattle.run_pipe.specs.Ends.{HasEnded, HasMemory}
+use Rattle.run_pipe.specs.Watches.{HasSeen}
 use Rattle.run_pipe.specs.declared.ends.RunEnd.{RunEnd}
 use Rattle.run_pipe.specs.declared.ends.RunEnd.TheVariants.{Drained, Halted}
 use Rattle.run_pipe.specs.Seen.{PipeState}
@@ -51,10 +52,12 @@ partly_obeyed (Err e) topology before opened now k = k
 
 all_back : (feeds : Feeds) (topology : Topology) (control : Option LineSeen) (bodies : ℕ → Option BodySeen) (old new : EdgesSeen)
     → GivesOff (named_control topology.control control ++ sources_of feeds topology.stages bodies) (sinks_of feeds topology.stages bodies) old new
-    → GivesOff (first_sources feeds (suc (length topology.stages)) topology control bodies) (first_sinks feeds (suc (length topology.stages)) topology bodies) old new
+    → GivesOff (first_sources feeds (suc (length topology.stages)) 0 topology control bodies) (first_sinks feeds (suc (length topology.stages)) topology bodies) old new
 all_back feeds topology control bodies old new h =
     let stages = topology.stages in
-    subst (λ (xs : List StageSpec). GivesOff (named_control topology.control control ++ sources_of feeds xs bodies) (sinks_of feeds xs bodies) old new) (sym (take_all (length stages) stages (omega arith))) h
+    let front = named_control topology.control control in
+    subst (λ (sources : List (List ℕ × SourceSeen)). GivesOff (front ++ sources) (sinks_of feeds (take (length stages) stages) bodies) old new) (sym (append-nil (sources_of feeds (take (length stages) stages) bodies)))
+    (subst (λ (xs : List StageSpec). GivesOff (front ++ sources_of feeds xs bodies) (sinks_of feeds xs bodies) old new) (sym (take_all (length stages) stages (omega arith))) h)
 
 back_of : (feeds : Feeds) (topology same : Topology) (control : Option LineSeen) (bodies : ℕ → Option BodySeen) (old new : EdgesSeen) → topology ≡ same
     → GivesOff (named_control topology.control control ++ sources_of feeds topology.stages bodies) (sinks_of feeds topology.stages bodies) old new
@@ -80,6 +83,17 @@ ran_to o opened p final end first last is ran =
     subst (λ (e : Option (Result RunEnd AllocError)). IsSomeAnd e (HasRun opened final)) is
     (subst (λ (z : PipeState × PipeState). IsSomeAnd z.1.end (HasRun z.0 z.1)) (λ i. (first i, last i)) ran)
 
+-- ---- the watch
+
+memory_in : (o : Option (Result RunEnd AllocError)) (r : Result RunEnd AllocError) → o ≡ Some r → IsTrue (is_ok r) → HasMemory o
+memory_in o (Ok end) e whole = subst HasMemory (sym e) tt
+memory_in o (Err error) e whole = not_whole whole
+
+-- what the watch of a pipe has seen it has seen of its run
+pub seen_in : (fits : Topology → Type 0) (stood : History → Type 0) (failed : Bool) (o : Option (Result RunEnd AllocError)) (r whole : Result RunEnd AllocError) (topology same : Topology) (steps : History) → o ≡ Some r
+    → (IsTrue (is_ok whole) → IsTrue (is_ok r)) → topology ≡ same → HasSeen fits stood failed (HasMemory o) topology steps → HasSeen fits stood failed (IsTrue (is_ok whole)) same steps
+seen_in fits stood failed o r whole topology same steps is ends e h = record { fit = subst fits e h.fit; part = h.part; all = λ sound w. h.all sound (memory_in o r is (ends w)) }
+
 -- ---- the whole
 
 -- all was given back of the topology that stands in the core
@@ -98,6 +112,7 @@ went feeds (Ok end) opened p topology final old new h same back first calm kept 
   none_out = λ w. none_out opened.topology p.steps end h.ended;
   stay = h.stay;
   parts = suc (length opened.topology.stages);
+  more = 0;
   all = λ w. refl;
   back = all_back feeds opened.topology p.control p.home old new (back_of feeds topology opened.topology p.control p.home old new (same ∙ h.topology) back);
   first = subst (λ (t : Topology). IsBackFirst t.control p.control old new) (same ∙ h.topology) first;
@@ -116,6 +131,7 @@ went feeds (Err e) opened p topology final old new h same back first calm kept =
   none_out = λ w. not_whole w;
   stay = h.stay;
   parts = suc (length opened.topology.stages);
+  more = 0;
   all = λ w. refl;
   back = all_back feeds opened.topology p.control p.home old new (back_of feeds topology opened.topology p.control p.home old new (same ∙ h.topology) back);
   first = subst (λ (t : Topology). IsBackFirst t.control p.control old new) (same ∙ h.topology) first;
@@ -140,6 +156,7 @@ went_in_part feeds r opened p topology final old new h same given first kept =
       none_out = λ w. not_whole w;
       stay = h.stay;
       parts = part.parts;
+      more = part.more;
       all = λ w. not_whole w;
       back = part.back;
       first = subst (λ (t : Topology). IsBackFirst t.control p.control old new) (same ∙ h.topology) first;

@@ -23,14 +23,14 @@ use Rattle.source_lines.specs.Cut.{AreFirstLines, AreAllLines, AreLinesBeforeLon
 use Rattle.pipe_laws.specs.Read.{quiets}
 use Rattle.stage_job.specs.Chunks.{RoseBy}
 use Rattle.stage_bodies.specs.Reads.{AreReadFrom}
-use Rattle.stage_bodies.specs.Seen.{SourceSeen, LineSeen}
+use Rattle.stage_bodies.specs.Seen.{SourceSeen, OneSource, LineSeen}
 use Rattle.body_laws.specs.Keeps.{IsKnownEnd, KeepsSource}
 use Rattle.pipe_edges.specs.Paces.{Pace, PaceSeen}
 use Rattle.rate_laws.specs.Rates.{own_quiets}
 use Rattle.pace_laws.specs.Pacing.{KeepsPaceBy, at_start}
 use Rattle.edge_names.specs.Seen.{EdgesSeen}
 use Rattle.edge_names.specs.Named.{GivesSource}
-use Rattle.edge_names.specs.Supplies.{Feed, Opened, Made, Fed, IsMade}
+use Rattle.edge_names.specs.Supplies.{Feed, Opened, Merged, Made, Fed, IsMade}
 use Rattle.edge_names.specs.Gates.{without_gate}
 use Rattle.edge_names.specs.Opened.{GivesFeed, GivesFed}
 use Rattle.edge_names.specs.Returned.{IsCalm}
@@ -39,13 +39,13 @@ use Rattle.pipe_run.specs.Outside.{ReadsSource, IsFeedRead, IsFedRead, IsMadeRea
 
 -- ---- ends
 
-known_end : (now : Option SourceHow) (line_end : Option LineEnd) → IsKnownEnd now line_end → now ≡ Some how.End → line_end ≡ Some end.End
+pub known_end : (now : Option SourceHow) (line_end : Option LineEnd) → IsKnownEnd now line_end → now ≡ Some how.End → line_end ≡ Some end.End
 known_end now line_end known is = rw is at known
 
-known_long : (now : Option SourceHow) (line_end : Option LineEnd) → IsKnownEnd now line_end → now ≡ Some how.TooLong → line_end ≡ Some end.TooLong
+pub known_long : (now : Option SourceHow) (line_end : Option LineEnd) → IsKnownEnd now line_end → now ≡ Some how.TooLong → line_end ≡ Some end.TooLong
 known_long now line_end known is = rw is at known
 
-known_fault : (now : Option SourceHow) (line_end : Option LineEnd) → IsKnownEnd now line_end → now ≡ Some how.Fault → line_end ≡ Some end.Fault
+pub known_fault : (now : Option SourceHow) (line_end : Option LineEnd) → IsKnownEnd now line_end → now ≡ Some how.Fault → line_end ≡ Some end.Fault
 known_fault now line_end known is = rw is at known
 
 end_later : (t : Bool) (h : SourceHow) (how : SourceHow) (old : Option SourceHow) → (if t then Some h else old) ≡ Some how → (t ≡ true) ⊎ (old ≡ Some how)
@@ -82,7 +82,7 @@ ended_by (step ∷ before) s how e = by (end_by_or_before step s how (source_end
     by (inr earlier) more = second (ends_source s step) (has_ended before s) (more earlier)
 
 -- records are lost only while a fetch is out, and so before the source ends
-none_lost : {X : Type 0} (topology : Topology) (before : History) (s : StageNo) (lost : List X) (how : SourceHow) → is_legal topology before ≡ true → has_role topology s is_producer_role ≡ true → same_stage s (stage 0) ≡ false
+pub none_lost : {X : Type 0} (topology : Topology) (before : History) (s : StageNo) (lost : List X) (how : SourceHow) → is_legal topology before ≡ true → has_role topology s is_producer_role ≡ true → same_stage s (stage 0) ≡ false
     → (lost ≡ []) ⊎ (is_out before (post s 0) ≡ true) → source_end before s ≡ Some how → lost ≡ []
 none_lost topology before s lost how legal role own (inl none) ended = none
 none_lost topology before s lost how legal role own (inr out) ended =
@@ -91,7 +91,7 @@ none_lost topology before s lost how legal role own (inr out) ended =
 -- ---- lines
 
 -- what the source gave and has left is what it had left when it was opened
-all_bytes : (opened : SourceSeen) (now : LineSeen) (records : List (List ℕ)) → opened.taken ≡ [] → AreReadFrom opened now records → IsTrue opened.told → now.source.taken ++ now.source.left ≡ opened.left
+pub all_bytes : (opened : SourceSeen) (now : LineSeen) (records : List (List ℕ)) → opened.taken ≡ [] → AreReadFrom opened now records → IsTrue opened.told → now.source.taken ++ now.source.left ≡ opened.left
 all_bytes opened now records fresh r t = r.same_bytes t ∙ ap (λ x. x ++ opened.left) fresh
 
 -- ---- the source of a producer
@@ -150,8 +150,9 @@ made_read whole topology before s full lost pace bytes opened now legal role own
 }
 
 feed_read : (whole : Bool) (topology : Topology) (before : History) (s : StageNo) (full : Bool) (lost : List (List ℕ)) (edges : EdgesSeen) (pace : Option Pace) (feed : Feed) (opened now : LineSeen) → is_legal topology before ≡ true → has_role topology s is_producer_role ≡ true → same_stage s (stage 0) ≡ false
-    → (lost ≡ []) ⊎ (is_out before (post s 0) ≡ true) → GivesFeed edges feed (without_gate opened.source) → KeepsSource before s full lost opened now → (IsTrue whole → IsCalm (Some (Fed pace feed)) (Some now.source)) → IsFeedRead whole edges before s feed now.source
+    → (lost ≡ []) ⊎ (is_out before (post s 0) ≡ true) → GivesFeed edges feed (without_gate opened.source) → KeepsSource before s full lost opened now → (IsTrue whole → IsCalm (Some (Fed pace feed)) (Some now.source)) → IsFeedRead whole edges before s feed (OneSource now.source)
 feed_read whole topology before s full lost edges pace (Opened name) opened now legal role own in_fetch gives k calm = source_read topology before s full lost edges name opened now legal role own in_fetch gives k
+feed_read whole topology before s full lost edges pace (Merged names) opened now legal role own in_fetch gives k calm = absurd gives
 feed_read whole topology before s full lost edges pace (Made bytes) opened now legal role own in_fetch gives k calm = made_read whole topology before s full lost pace bytes opened now legal role own in_fetch gives k calm
 
 -- ---- its pace
@@ -161,9 +162,9 @@ kept_pace None before s full opened now begins k = k ∙ begins
 kept_pace (Some pace) before s full opened now begins k =
     (k.within, subst (λ n. RoseBy (own_quiets pace.share pace.interval before s) n now.source.paced.own) (ap (λ (p : PaceSeen). p.own) begins) k.own)
 
-pub fed_read : (whole : Bool) (topology : Topology) (before : History) (s : StageNo) (full : Bool) (lost : List (List ℕ)) (edges : EdgesSeen) (pace : Option Pace) (feed : Feed) (opened now : LineSeen) → is_legal topology before ≡ true → has_role topology s is_producer_role ≡ true → same_stage s (stage 0) ≡ false
-    → (lost ≡ []) ⊎ (is_out before (post s 0) ≡ true) → GivesFed edges pace feed opened → KeepsSource before s full lost opened now → (IsTrue whole → IsCalm (Some (Fed pace feed)) (Some now.source)) → IsFedRead whole edges before s pace feed now.source
-fed_read whole topology before s full lost edges pace feed opened now legal role own in_fetch gives k calm =
+pub line_read : (whole : Bool) (topology : Topology) (before : History) (s : StageNo) (full : Bool) (lost : List (List ℕ)) (edges : EdgesSeen) (pace : Option Pace) (feed : Feed) (opened now : LineSeen) → is_legal topology before ≡ true → has_role topology s is_producer_role ≡ true → same_stage s (stage 0) ≡ false
+    → (lost ≡ []) ⊎ (is_out before (post s 0) ≡ true) → GivesFed edges pace feed opened → KeepsSource before s full lost opened now → (IsTrue whole → IsCalm (Some (Fed pace feed)) (Some now.source)) → IsFedRead whole edges before s pace feed (OneSource now.source)
+line_read whole topology before s full lost edges pace feed opened now legal role own in_fetch gives k calm =
     let same : opened.source.paced.pace ≡ pace = ap (λ (p : PaceSeen). p.pace) gives.gate in
     record {
       read = feed_read whole topology before s full lost edges pace feed opened now legal role own in_fetch gives.source k calm;

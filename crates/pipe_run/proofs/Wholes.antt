@@ -21,19 +21,20 @@ use Rattle.pipe_run.specs.Steps.{WentOn}
 use Rattle.pipe_run.specs.Whole.{IsRunOf}
 use Rattle.pipe_run.specs.declared.run.Run.{Run}
 use Rattle.pipe_run.specs.declared.run.NoRun.{NoRun}
-use Rattle.pipe_run.proofs.Bodies.{IsRunFrom, used}
+use Rattle.pipe_run.proofs.Bodies.{AreUngated, IsRunFrom, used}
 use Rattle.pipe_run.proofs.Callbacks.{leaves, left_remain, same_remain}
 use Rattle.pipe_run.proofs.Calls.{asked_all, outside}
 use Rattle.pipe_run.proofs.Controls.{has_control, no_control}
 use Rattle.pipe_run.proofs.Stocks.{IsTakenBack, boxes_left, boxes_same}
 
 -- everything was opened, the rounds went on, and all was given back
-pub run_of : (feeds : Feeds) (whole : Bool) (topology : Topology) (before : History) (table opened final : ℕ → Option BodySeen) (fresh : Option LineSeen) (old mid new : EdgesSeen) (clock clock' : ClockSeen) → IsSound topology → is_legal topology before ≡ true → AreHandedOut topology table
+pub run_of : (feeds : Feeds) (whole : Bool) (topology : Topology) (before : History) (table opened final : ℕ → Option BodySeen) (fresh : Option LineSeen) (old mid new : EdgesSeen) (clock clock' : ClockSeen) → IsSound topology → AreUngated feeds → is_legal topology before ≡ true → AreHandedOut topology table
     → AreOpened feeds topology (length topology.stages) old table opened → HasSource old (control_call topology.control) None fresh → Asks (run_calls feeds topology) old mid → WentOn feeds whole topology before opened final fresh mid new clock clock'
     → IsRunOf feeds whole topology before old new clock clock'
-run_of feeds whole topology before table opened final fresh old mid new clock clock' sound legal handed opens lines asks went =
+run_of feeds whole topology before table opened final fresh old mid new clock clock' sound ungated legal handed opens lines asks went =
     let from : IsRunFrom feeds whole topology old before table opened went.bodies = record {
       sound = sound;
+      ungated = ungated;
       legal = legal;
       home = homes feeds topology table handed;
       opens = opens;
@@ -47,9 +48,9 @@ run_of feeds whole topology before table opened final fresh old mid new clock cl
       control = λ none. no_control topology old before topology.control fresh went.control none lines went.obeyed;
       ended = went.ended;
       idle = went.idle;
-      outside = outside feeds whole topology before (run_calls feeds topology) old mid new went.control went.bodies went.parts went.all obeyed (used feeds whole topology old before table opened went.bodies from) asks went.back went.first;
+      outside = outside feeds whole topology before (run_calls feeds topology) old mid new went.control went.bodies went.parts went.more went.all obeyed (used feeds whole topology old before table opened went.bodies from) asks went.back went.first;
       time = went.time;
-      asks = asked_all (run_calls feeds topology) (first_sources feeds went.parts topology went.control went.bodies) (first_sinks feeds went.parts topology went.bodies) old mid new asks went.back;
+      asks = asked_all (run_calls feeds topology) (first_sources feeds went.parts went.more topology went.control went.bodies) (first_sinks feeds went.parts topology went.bodies) old mid new asks went.back;
     }
 
 pub run_leaves : (feeds : Feeds) (whole : Bool) (topology : Topology) (before : History) (table opened final : ℕ → Option BodySeen) (fresh : Option LineSeen) (mid new : EdgesSeen) (clock clock' : ClockSeen) → IsSound topology → KeepsCallbacks table opened

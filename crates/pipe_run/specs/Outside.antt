@@ -1,5 +1,6 @@
 -- What a run read of its sources, and wrote to its sinks.
-use Rattle.std.specs.Prelude.{◌≡◌, ◌≤◌, ◌⊎◌, ◌+◌, ◌++◌, ℕ, suc, drop, Bool, List, length, slice_get, IsTrue, Option, Some, None}
+use Rattle.std.specs.Prelude.{◌≡◌, ◌≤◌, ◌<◌, ◌⊎◌, ◌+◌, ◌++◌, ◌∷◌, ℕ, suc, drop, Bool, List, length, map, slice_get, All, IsTrue, IfSome, IsSomeAnd, Option, Some, None, option_map}
+use Rattle.std.specs.List.{sum_by}
 use Rattle.pipe_types.specs.Counts.{Rose}
 use Rattle.pipe_types.specs.declared.numbers.StageNo.{StageNo}
 use Rattle.pipe_types.specs.declared.step.SourceHow.TheVariants.{End, Fault, TooLong}
@@ -13,7 +14,9 @@ use Rattle.pipe_edges.specs.declared.edges.EdgeKind.{EdgeKind}
 use Rattle.source_lines.specs.Cut.{AreFirstLines, AreAllLines, AreLinesBeforeLong}
 use Rattle.pipe_laws.specs.Read.{quiets}
 use Rattle.stage_job.specs.Chunks.{RoseBy}
-use Rattle.stage_bodies.specs.Seen.{SourceSeen, SinkSeen, LineSeen, BodySeen}
+use Rattle.line_merge.specs.Items.{lines_from}
+use Rattle.stage_bodies.specs.Seen.{SourceSeen, SourcesSeen, OneSource, ManySources, sources_out, SinkSeen, LineSeen, BodySeen}
+use Rattle.stage_bodies.specs.Jobs.{Both}
 use Rattle.stage_bodies.specs.Posts.{place_at}
 use Rattle.body_laws.specs.Counts.{short_writes}
 use Rattle.body_laws.specs.Ready.{There}
@@ -23,9 +26,9 @@ use Rattle.rate_laws.specs.Rates.{came_by, own_quiets}
 use Rattle.edge_names.specs.Seen.{EdgesSeen}
 use Rattle.edge_names.specs.Gates.{AreInner, HasNoWait, without_gate}
 use Rattle.edge_names.specs.Named.{GivesSource, GivesSink}
-use Rattle.edge_names.specs.Supplies.{Feeds, Feed, Opened, Made, Fed, Written, call_of}
-use Rattle.edge_names.specs.Opened.{AreOpened, HasSource, supplied_in, calls_of, edge_calls}
-use Rattle.edge_names.specs.Returned.{source_in, sink_in, sources_of, sinks_of}
+use Rattle.edge_names.specs.Supplies.{Feeds, Feed, Opened, Merged, Made, Fed, Written, stage_calls}
+use Rattle.edge_names.specs.Opened.{AreOpened, AreUnread, HasSource, supplied_in, calls_of, edge_calls}
+use Rattle.edge_names.specs.Returned.{feed_in, sink_in, sources_of, sinks_of}
 use Rattle.edge_names.specs.Controls.{IsBackFirst, IsControlCut, IsStageCut, control_call, named_control, first_sources, first_sinks}
 use Rattle.box_stock.specs.Lends.{AreHandedOut}
 
@@ -47,6 +50,32 @@ pub record IsSourceRead (edges : EdgesSeen) (before : History) (p : StageNo) (na
   pub same_telling : source.told ≡ opened.told
   pub same_bytes : IsTrue opened.told → source.taken ++ source.left ≡ opened.left
   pub reads : ReadsSource before p source
+
+-- the records are lines of these sources: of each the first lines of what it gave and has left, in their order; all of them, none too
+-- long, where each source ended; all before the first that is too long of some source, where the end is such a line. A fault has its
+-- cause in some source, and the waits of all together rose at least once for each quiet; their counts were 0 when they were opened
+pub record ReadsMerge (before : History) (p : StageNo) (sources : List SourceSeen) : Type 0 where
+  pub order : List (ℕ × List ℕ)
+  pub records : map (λ d. d.1) order ≡ fed before p
+  pub placed : All (λ d. d.0 < length sources) order
+  pub in_order : (k : ℕ) → IfSome (slice_get sources k) (λ s. IsTrue s.told → AreFirstLines (s.taken ++ s.left) (lines_from k order))
+  pub whole : source_end before p ≡ Some End → (k : ℕ) → IfSome (slice_get sources k) (λ s. IsTrue s.told → AreAllLines (s.taken ++ s.left) (lines_from k order))
+  pub too_long : source_end before p ≡ Some TooLong → (k : ℕ) × IsSomeAnd (slice_get sources k) (λ s. IsTrue s.told → AreLinesBeforeLong (s.taken ++ s.left) (lines_from k order))
+  pub fault : source_end before p ≡ Some Fault → (k : ℕ) × IsSomeAnd (slice_get sources k) (λ s. Rose 0 s.faults)
+  pub quiet : RoseBy (quiets before p) 0 (sum_by (λ s. s.waits) sources)
+
+-- it tells as when it was opened, and what it gave and has left is what stood there then
+pub record HasItsBytes (opened source : SourceSeen) : Type 0 where
+  pub same_telling : source.told ≡ opened.told
+  pub same_bytes : IsTrue opened.told → source.taken ++ source.left ≡ opened.left
+
+-- the sources that were opened under these names, one by one, have the bytes that stood there, and the journal's records are their
+-- lines
+pub record IsMergeRead (edges : EdgesSeen) (before : History) (p : StageNo) (names : List (List ℕ)) (sources : List SourceSeen) : Type 0 where
+  pub opened : List SourceSeen
+  pub given : (k : ℕ) → Both (GivesSource edges) (slice_get names k) (slice_get opened k)
+  pub same : (k : ℕ) → Both HasItsBytes (slice_get opened k) (slice_get sources k)
+  pub reads : ReadsMerge before p sources
 
 -- the control source that was opened under this name has the bytes that stood there, and the control steps of the journal are
 -- those of its lines
@@ -80,10 +109,12 @@ pub record IsMadeRead (whole : Bool) (before : History) (p : StageNo) (bytes : L
   pub reads : ReadsSource before p source
   pub calm : IsTrue whole → (source.faults ≡ 0) × HasNoWait source
 
--- the source of a producer, however it came to it
-abbrev pub IsFeedRead : (whole : Bool) → EdgesSeen → History → (p : StageNo) → Feed → SourceSeen → Type 0
-IsFeedRead whole edges before p (Opened name) source = IsSourceRead edges before p name source
-IsFeedRead whole edges before p (Made bytes) source = IsMadeRead whole before p bytes source
+-- the source of a producer, however it came to it, or the sources of its merge
+abbrev pub IsFeedRead : (whole : Bool) → EdgesSeen → History → (p : StageNo) → Feed → SourcesSeen → Type 0
+IsFeedRead whole edges before p (Opened name) (OneSource source) = IsSourceRead edges before p name source
+IsFeedRead whole edges before p (Merged names) (ManySources sources) = IsMergeRead edges before p names sources
+IsFeedRead whole edges before p (Made bytes) (OneSource source) = IsMadeRead whole before p bytes source
+IsFeedRead whole edges before p _ _ = ⊥
 
 -- no interval brought more records than the share, and the source itself had nothing ready at least once for each quiet of the journal
 -- that came while the share had one left; without a pace it has no gate
@@ -93,30 +124,36 @@ KeepsItsPace (Some pace) before p source =
     ((i : ℕ) → came_by p pace.interval i before ≤ pace.share)
     × RoseBy (own_quiets pace.share pace.interval before p) 0 source.paced.own
 
--- the source of a producer that is read at this pace
-pub record IsFedRead (whole : Bool) (edges : EdgesSeen) (before : History) (p : StageNo) (at : Option Pace) (feed : Feed) (source : SourceSeen) : Type 0 where
-  pub read : IsFeedRead whole edges before p feed source
-  pub pace : KeepsItsPace at before p source
+-- a merge has no pace, and no source of it has a gate
+abbrev pub KeepTheirPace : Option Pace → History → (p : StageNo) → SourcesSeen → Type 0
+KeepTheirPace at before p (OneSource source) = KeepsItsPace at before p source
+KeepTheirPace at before p (ManySources sources) = (at ≡ None) × ((k : ℕ) → IfSome (slice_get sources k) (λ s. s.paced ≡ unpaced))
+
+-- the source of a producer that is read at this pace, or the sources of its merge
+pub record IsFedRead (whole : Bool) (edges : EdgesSeen) (before : History) (p : StageNo) (at : Option Pace) (feed : Feed) (sources : SourcesSeen) : Type 0 where
+  pub read : IsFeedRead whole edges before p feed sources
+  pub pace : KeepTheirPace at before p sources
 
 -- the bodies of the stages hold what they were supplied with, each source read and each sink written as the journal says
 pub record AreUsed (feeds : Feeds) (whole : Bool) (topology : Topology) (edges : EdgesSeen) (before : History) (bodies : ℕ → Option BodySeen) : Type 0 where
   pub sources : (s : StageNo) (pace : Option Pace) (feed : Feed) → supplied_in feeds (spec_of topology s) ≡ Some (Fed pace feed)
-      → There (source_in (bodies (place_at (post s 0)))) (IsFedRead whole edges before s pace feed)
+      → There (option_map sources_out (feed_in (bodies (place_at (post s 0))))) (IsFedRead whole edges before s pace feed)
   pub sinks : (s : StageNo) (name : List ℕ) → supplied_in feeds (spec_of topology s) ≡ Some (Written name)
       → There (sink_in (bodies (place_at (post s 0)))) (IsSinkWritten topology edges before s name)
 
 -- everything that was opened by name was read and written as the journal says, and then given back, the control source first
 -- and as it was, and then what the stages opened, in their order, each source without its gate: all of it, unless memory was
--- wanting
+-- wanting. Then it was the first parts, and so many of the sources of the next one
 pub record IsOutside (feeds : Feeds) (whole : Bool) (topology : Topology) (before : History) (old new : EdgesSeen) : Type 0 where
   pub control : Option LineSeen
   pub obeyed : HasControl topology old before topology.control control
   pub bodies : ℕ → Option BodySeen
   pub used : AreUsed feeds whole topology old before bodies
   pub parts : ℕ
+  pub more : ℕ
   pub all : IsTrue whole → parts ≡ suc (length topology.stages)
   pub inner : List (List ℕ × SourceSeen)
-  pub ungated : AreInner (first_sources feeds parts topology control bodies) inner
+  pub ungated : AreInner (first_sources feeds parts more topology control bodies) inner
   pub first : IsBackFirst topology.control control old new
   pub sources : new.sources_back ≡ old.sources_back ++ inner
   pub sinks : new.sinks_back ≡ old.sinks_back ++ first_sinks feeds parts topology bodies
@@ -128,24 +165,28 @@ pub record IsControlUnopened (feeds : Feeds) (topology : Topology) (name : List 
   pub sources : new.sources_back ≡ old.sources_back
   pub sinks : new.sinks_back ≡ old.sinks_back
 
--- the call of a stage failed by this name, with these calls still to come, and the control source and then what the stages before
--- it had opened, in their order, was given back, unread and unwritten
+-- a call of a stage failed by this name, with these calls still to come. What this stage had opened before it, as one of a merge, was
+-- given back first, and then the control source and what the stages before it had opened, in their order, unread and unwritten
 pub record IsStageUnopened (feeds : Feeds) (topology : Topology) (name : List ℕ) (rest : List (EdgeKind × List ℕ)) (old new : EdgesSeen) : Type 0 where
   pub at : ℕ
   pub kind : EdgeKind
   pub spec : StageSpec
   pub here : slice_get topology.stages at ≡ Some spec
-  pub call : call_of feeds spec ≡ Some (kind, name)
-  pub to_come : rest ≡ calls_of feeds (drop (at + 1) topology.stages)
+  pub front : List (EdgeKind × List ℕ)
+  pub behind : List (EdgeKind × List ℕ)
+  pub calls : stage_calls feeds spec ≡ front ++ (kind, name) ∷ behind
+  pub to_come : rest ≡ behind ++ calls_of feeds (drop (at + 1) topology.stages)
   pub control : Option LineSeen
   pub unread : HasSource old (control_call topology.control) None control
   pub start : ℕ → Option BodySeen
   pub handed : AreHandedOut topology start
   pub bodies : ℕ → Option BodySeen
   pub opened : AreOpened feeds topology at old start bodies
+  pub back : List (List ℕ × SourceSeen)
+  pub unread_back : AreUnread old front back
   pub inner : List (List ℕ × SourceSeen)
   pub ungated : AreInner (named_control topology.control control ++ sources_of feeds topology.stages bodies) inner
-  pub sources : new.sources_back ≡ old.sources_back ++ inner
+  pub sources : new.sources_back ≡ old.sources_back ++ (back ++ inner)
   pub sinks : new.sinks_back ≡ old.sinks_back ++ sinks_of feeds topology.stages bodies
 
 -- a call that opens failed by this name, with these calls still to come, and what was opened before it was given back

@@ -16,7 +16,8 @@ use Rattle.edge_names.specs.Controls.{IsBackFirst, first_sources, first_sinks}
 use Rattle.pipe_run.specs.Whole.{HasCome, IsIdleWithin, IsTimeOf}
 
 -- the run went on from the opened bodies and the control source, and then what was opened was given back, the control source
--- first and then that of the stages, each source without its gate: all of it, unless memory was wanting
+-- first and then that of the stages, each source without its gate: all of it, unless memory was wanting, and then the first parts, and so
+-- many of the sources of the next one
 pub record WentOn (feeds : Feeds) (whole : Bool) (topology : Topology) (before : History) (opened final : ℕ → Option BodySeen) (fresh : Option LineSeen) (old new : EdgesSeen) (clock clock' : ClockSeen) : Type 0 where
   pub follows : FollowsMoves topology before
   pub ended : IsTrue whole → HasCome topology before
@@ -29,8 +30,9 @@ pub record WentOn (feeds : Feeds) (whole : Bool) (topology : Topology) (before :
   pub none_out : IsTrue whole → jobs_out topology before ≡ false
   pub stay : (at : ℕ) → IsSome (opened at) → IsSome (bodies at)
   pub parts : ℕ
+  pub more : ℕ
   pub all : IsTrue whole → parts ≡ suc (length topology.stages)
-  pub back : GivesOff (first_sources feeds parts topology control bodies) (first_sinks feeds parts topology bodies) old new
+  pub back : GivesOff (first_sources feeds parts more topology control bodies) (first_sinks feeds parts topology bodies) old new
   pub first : IsBackFirst topology.control control old new
   pub calm : IsTrue whole → AreCalm feeds topology.stages bodies
   pub kept : KeepsCallbacks bodies final

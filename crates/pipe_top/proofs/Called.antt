@@ -1,6 +1,6 @@
 -- What a call comes to after a call by name that gave nothing back.
 use Rattle.std.proofs.Common.{◌≡◌, ℕ, suc, ◌≤◌, List, [], ◌∷◌, ◌++◌, take, Bool, true, false, Option, Some, None, Result, Ok, Err, ◌∙◌, ap, inl, inr, arith}
-use Rattle.std.specs.Prelude.{◌⊎◌, All, IsTrue}
+use Rattle.std.specs.Prelude.{◌⊎◌, All, IsTrue, length, slice_get, option_map}
 use Rattle.std.proofs.lemmas.List.{append_assoc}
 use Rattle.std.proofs.lemmas.List.Elements.{All-cons}
 use Rattle.pipe_types.specs.Counts.{Rose}
@@ -11,18 +11,18 @@ use Rattle.pipe_model.specs.History.{History}
 use Rattle.pipe_edges.specs.Paces.{Pace}
 use Rattle.pipe_edges.specs.declared.edges.EdgeKind.{EdgeKind}
 use Rattle.pipe_edges.specs.declared.edges.EdgeKind.TheVariants.{File, Source, Sink}
-use Rattle.stage_bodies.specs.Seen.{SourceSeen, SinkSeen, LineSeen, BodySeen}
+use Rattle.stage_bodies.specs.Seen.{SourceSeen, SourcesSeen, OneSource, ManySources, sources_in, sources_out, SinkSeen, LineSeen, MergeSeen, FeedSeen, Single, Merged as MergedSeen, BodySeen}
 use Rattle.stage_bodies.specs.Jobs.{Both}
 use Rattle.stage_bodies.specs.Posts.{place_at}
 use Rattle.body_laws.specs.Ready.{There}
 use Rattle.edge_names.specs.Seen.{EdgesSeen}
 use Rattle.edge_names.specs.Gates.{without_gate}
 use Rattle.edge_names.specs.Named.{GivesSource, GivesSink}
-use Rattle.edge_names.specs.Opened.{GivesFed, GivesFeed, HasFeed, HasSource, HasSink, IsCut, IsOpened, AreOpened, supplied_at, let_go, returned, uncalled}
-use Rattle.edge_names.specs.Supplies.{Feeds, Feed, Opened, Made, Supplied, Fed, Written, call_of}
+use Rattle.edge_names.specs.Opened.{AreUnread, GivesFed, GivesFeed, GivesMerge, HasFeed, HasSource, HasSink, IsCut, IsOpened, AreOpened, one, supplied_at}
+use Rattle.edge_names.specs.Supplies.{Feeds, Feed, Opened, Merged, Made, Supplied, Fed, Written, stage_calls}
 use Rattle.edge_names.specs.Controls.{IsBackFirst, IsFailedInPart, IsStageCut, control_call, first_sinks, named_control}
-use Rattle.edge_names.specs.Returned.{source_in, sink_in, sinks_of}
-use Rattle.pipe_run.specs.Outside.{IsFedRead, IsFeedRead, IsSourceRead, IsSinkWritten, AreUsed, IsControlUsed, HasControl, IsOpenedInPart, IsOutside, IsStageUnopened, IsUnopened}
+use Rattle.edge_names.specs.Returned.{feed_in, sink_in, sinks_of}
+use Rattle.pipe_run.specs.Outside.{IsFedRead, IsFeedRead, IsMergeRead, IsSourceRead, IsSinkWritten, AreUsed, IsControlUsed, HasControl, IsOpenedInPart, IsOutside, IsStageUnopened, IsUnopened}
 use Rattle.pipe_top.specs.Cases.{feeds_of, Case, NoCommand, NoTopology as BadTopology, TooFew, Checks, Upgrades, Audits, Rejects, Runs}
 use Rattle.pipe_top.specs.Runs.{OutsideSeen, IsUntouched, IsJournalBack, IsAuditedIn, IsNothingBack, IsBrokenOff, IsGivenUp, HasRunOrNot, IsOutsideOf, FailsAt}
 use Rattle.pipe_top.specs.Audits.{IsAuditOf, MayBeBack}
@@ -59,6 +59,25 @@ gives_sink old new name sink same x = record {
       (g.0, g.1 ∙ same.same_names t Sink name);
 }
 
+both_as : {A B : Type 0} (R S : A → B → Type 0) (x : Option A) (y : Option B) → ((a : A) (b : B) → R a b → S a b) → Both R x y → Both S x y
+both_as R S (Some a) (Some b) so h = so a b h
+both_as R S None None so h = tt
+both_as R S (Some a) None so h = absurd h
+both_as R S None (Some b) so h = absurd h
+
+there_as : {A : Type 0} (P Q : A → Type 0) (x : Option A) → ((a : A) → P a → Q a) → There x P → There x Q
+there_as P Q (Some a) so h = so a h
+there_as P Q None so h = absurd h
+
+-- the sources that these calls opened
+unread_as : (old new : EdgesSeen) (calls : List (EdgeKind × List ℕ)) (back : List (List ℕ × SourceSeen)) → SameNames old new → AreUnread new calls back → AreUnread old calls back
+unread_as old new [] [] same h = tt
+unread_as old new [] (given ∷ back) same h = absurd h
+unread_as old new ((Source, name) ∷ calls) (given ∷ back) same h = (h.0, gives_source old new name given.1 same h.1, unread_as old new calls back same h.2)
+unread_as old new ((Source, name) ∷ calls) [] same h = absurd h
+unread_as old new ((Sink, name) ∷ calls) back same h = absurd h
+unread_as old new ((File, name) ∷ calls) back same h = absurd h
+
 has_source : (old new : EdgesSeen) (call : Option (EdgeKind × List ℕ)) (x y : Option LineSeen) → SameNames old new → HasSource new call x y → HasSource old call x y
 has_source old new (Some (Source, name)) x (Some lines) same h = record {
   source = gives_source old new name lines.source same h.source;
@@ -72,6 +91,7 @@ has_source old new None x y same h = h
 
 gives_feed : (old new : EdgesSeen) (feed : Feed) (source : SourceSeen) → SameNames old new → GivesFeed new feed source → GivesFeed old feed source
 gives_feed old new (Opened name) source same h = gives_source old new name source same h
+gives_feed old new (Merged names) source same h = absurd h
 gives_feed old new (Made bytes) source same h = h
 
 gives_fed : (old new : EdgesSeen) (pace : Option Pace) (feed : Feed) (lines : LineSeen) → SameNames old new → GivesFed new pace feed lines → GivesFed old pace feed lines
@@ -82,8 +102,22 @@ gives_fed old new pace feed lines same h = record {
   no_end = h.no_end;
 }
 
-has_feed : (old new : EdgesSeen) (what : Option Supplied) (x y : Option LineSeen) → SameNames old new → HasFeed new what x y → HasFeed old what x y
-has_feed old new (Some (Fed pace feed)) x (Some lines) same h = gives_fed old new pace feed lines same h
+gives_merge : (old new : EdgesSeen) (names : List (List ℕ)) (merge : MergeSeen) → SameNames old new → GivesMerge new names merge → GivesMerge old names merge
+gives_merge old new names merge same h = record {
+  some = h.some;
+  few = h.few;
+  given = λ k.
+      both_as (GivesSource new) (GivesSource old) (slice_get names k) (slice_get (sources_in (MergedSeen merge)) k)
+      (λ name source. gives_source old new name source same) (h.given k);
+  unread = h.unread;
+  unpaced = h.unpaced;
+}
+
+has_feed : (old new : EdgesSeen) (what : Option Supplied) (x y : Option FeedSeen) → SameNames old new → HasFeed new what x y → HasFeed old what x y
+has_feed old new (Some (Fed pace feed)) x (Some (Single lines)) same h = gives_fed old new pace feed lines same h
+has_feed old new (Some (Fed pace (Merged names))) x (Some (MergedSeen merge)) same h = gives_merge old new names merge same h
+has_feed old new (Some (Fed pace (Opened name))) x (Some (MergedSeen merge)) same h = absurd h
+has_feed old new (Some (Fed pace (Made bytes))) x (Some (MergedSeen merge)) same h = absurd h
 has_feed old new (Some (Fed pace feed)) x None same h = absurd h
 has_feed old new (Some (Written name)) x y same h = h
 has_feed old new None x y same h = h
@@ -101,16 +135,6 @@ is_opened old new what x y same h = record {
   callback = h.callback;
 }
 
-both_as : {A B : Type 0} (R S : A → B → Type 0) (x : Option A) (y : Option B) → ((a : A) (b : B) → R a b → S a b) → Both R x y → Both S x y
-both_as R S (Some a) (Some b) so h = so a b h
-both_as R S None None so h = tt
-both_as R S (Some a) None so h = absurd h
-both_as R S None (Some b) so h = absurd h
-
-there_as : {A : Type 0} (P Q : A → Type 0) (x : Option A) → ((a : A) → P a → Q a) → There x P → There x Q
-there_as P Q (Some a) so h = so a h
-there_as P Q None so h = absurd h
-
 are_opened : (feeds : Feeds) (topology : Topology) (n : ℕ) (old new : EdgesSeen) (start bodies : ℕ → Option BodySeen) → SameNames old new → AreOpened feeds topology n new start bodies → AreOpened feeds topology n old start bodies
 are_opened feeds topology n old new start bodies same h = λ p few.
     both_as (IsOpened new (supplied_at feeds topology n p)) (IsOpened old (supplied_at feeds topology n p)) (start (place_at p)) (bodies (place_at p))
@@ -125,13 +149,25 @@ source_read old new before p name source same x = record {
   reads = x.reads;
 }
 
-feed_read : (whole : Bool) (before : History) (p : StageNo) (feed : Feed) (old new : EdgesSeen) (source : SourceSeen) → SameNames old new → IsFeedRead whole new before p feed source → IsFeedRead whole old before p feed source
-feed_read whole before p (Opened name) old new source same x = source_read old new before p name source same x
-feed_read whole before p (Made bytes) old new source same x = x
+merge_read : (old new : EdgesSeen) (before : History) (p : StageNo) (names : List (List ℕ)) (sources : List SourceSeen) → SameNames old new → IsMergeRead new before p names sources → IsMergeRead old before p names sources
+merge_read old new before p names sources same x = record {
+  opened = x.opened;
+  given = λ k. both_as (GivesSource new) (GivesSource old) (slice_get names k) (slice_get x.opened k) (λ name source. gives_source old new name source same) (x.given k);
+  same = x.same;
+  reads = x.reads;
+}
 
-fed_read : (whole : Bool) (before : History) (p : StageNo) (pace : Option Pace) (feed : Feed) (old new : EdgesSeen) (source : SourceSeen) → SameNames old new → IsFedRead whole new before p pace feed source → IsFedRead whole old before p pace feed source
-fed_read whole before p pace feed old new source same x = record {
-  read = feed_read whole before p feed old new source same x.read;
+feed_read : (whole : Bool) (before : History) (p : StageNo) (feed : Feed) (old new : EdgesSeen) (sources : SourcesSeen) → SameNames old new → IsFeedRead whole new before p feed sources → IsFeedRead whole old before p feed sources
+feed_read whole before p (Opened name) old new (OneSource source) same x = source_read old new before p name source same x
+feed_read whole before p (Merged names) old new (ManySources sources) same x = merge_read old new before p names sources same x
+feed_read whole before p (Made bytes) old new (OneSource source) same x = x
+feed_read whole before p (Opened name) old new (ManySources sources) same x = absurd x
+feed_read whole before p (Merged names) old new (OneSource source) same x = absurd x
+feed_read whole before p (Made bytes) old new (ManySources sources) same x = absurd x
+
+fed_read : (whole : Bool) (before : History) (p : StageNo) (pace : Option Pace) (feed : Feed) (old new : EdgesSeen) (sources : SourcesSeen) → SameNames old new → IsFedRead whole new before p pace feed sources → IsFedRead whole old before p pace feed sources
+fed_read whole before p pace feed old new sources same x = record {
+  read = feed_read whole before p feed old new sources same x.read;
   pace = x.pace;
 }
 
@@ -164,8 +200,8 @@ are_used : (feeds : Feeds) (whole : Bool) (topology : Topology) (old new : Edges
     → AreUsed feeds whole topology new before bodies → AreUsed feeds whole topology old before bodies
 are_used feeds whole topology old new before bodies same x = record {
   sources = λ s pace feed is.
-      there_as (IsFedRead whole new before s pace feed) (IsFedRead whole old before s pace feed) (source_in (bodies (place_at (post s 0))))
-      (λ source. fed_read whole before s pace feed old new source same) (x.sources s pace feed is);
+      there_as (IsFedRead whole new before s pace feed) (IsFedRead whole old before s pace feed) (option_map sources_out (feed_in (bodies (place_at (post s 0)))))
+      (λ sources. fed_read whole before s pace feed old new sources same) (x.sources s pace feed is);
   sinks = λ s name call.
       there_as (IsSinkWritten topology new before s name) (IsSinkWritten topology old before s name) (sink_in (bodies (place_at (post s 0))))
       (λ sink. sink_written topology old new before s name sink same) (x.sinks s name call);
@@ -214,6 +250,7 @@ outside_as feeds whole topology before call old middle new c x = record {
   bodies = x.bodies;
   used = are_used feeds whole topology old middle before x.bodies c.names x.used;
   parts = x.parts;
+  more = x.more;
   all = x.all;
   inner = x.inner;
   ungated = x.ungated;
@@ -229,7 +266,9 @@ stage_unopened_as feeds topology name rest call old middle new c x = record {
   kind = x.kind;
   spec = x.spec;
   here = x.here;
-  call = x.call;
+  front = x.front;
+  behind = x.behind;
+  calls = x.calls;
   to_come = x.to_come;
   control = x.control;
   unread = has_source old middle (control_call topology.control) None x.control c.names x.unread;
@@ -237,9 +276,11 @@ stage_unopened_as feeds topology name rest call old middle new c x = record {
   handed = x.handed;
   bodies = x.bodies;
   opened = are_opened feeds topology x.at old middle x.start x.bodies c.names x.opened;
+  back = x.back;
+  unread_back = unread_as old middle x.front x.back c.names x.unread_back;
   inner = x.inner;
   ungated = x.ungated;
-  sources = x.sources ∙ ap (λ l. l ++ x.inner) c.same_sources;
+  sources = x.sources ∙ ap (λ l. l ++ (x.back ++ x.inner)) c.same_sources;
   sinks = x.sinks ∙ ap (λ l. l ++ sinks_of feeds topology.stages x.bodies) c.same_sinks;
 }
 
@@ -266,24 +307,29 @@ given_up_as feeds topology call calls old middle new c x = record {
   back = given_back_as feeds (x.fails.kind ≡ File) topology x.name x.fails.rest call old middle new c x.back;
 }
 
-cut_as : (old new : EdgesSeen) (call : Option (EdgeKind × List ℕ)) (calls : List (EdgeKind × List ℕ)) (back : List (List ℕ × SourceSeen)) → SameNames old new → IsCut new call calls back → IsCut old call calls back
-cut_as old new call calls back same (uncalled p q) = uncalled p q
-cut_as old new call calls back same (returned name source p q gives r) = returned name source p q (gives_source old new name source same gives) r
-cut_as old new call calls back same (let_go name p q r) = let_go name p q r
+cut_as : (old new : EdgesSeen) (calls made : List (EdgeKind × List ℕ)) (back : List (List ℕ × SourceSeen)) → SameNames old new → IsCut new calls made back → IsCut old calls made back
+cut_as old new calls made back same x = record {
+  rest = x.rest;
+  parts = x.parts;
+  of_sources = x.of_sources;
+  unread = unread_as old new (take (length back) made) back same x.unread;
+}
 
-failed_in_part_as : (topology : Topology) (of : Option (EdgeKind × List ℕ)) (calls : List (EdgeKind × List ℕ)) (back : List (List ℕ × SourceSeen)) (parts : ℕ) (call : EdgeKind × List ℕ) (old middle new : EdgesSeen) → Called old middle call
+failed_in_part_as : (topology : Topology) (of calls : List (EdgeKind × List ℕ)) (back : List (List ℕ × SourceSeen)) (parts : ℕ) (call : EdgeKind × List ℕ) (old middle new : EdgesSeen) → Called old middle call
     → IsFailedInPart topology of calls back parts middle new → IsFailedInPart topology of calls back parts old new
 failed_in_part_as topology of calls back parts call old middle new c x = record {
   kind = x.kind;
   name = x.name;
+  front = x.front;
+  behind = x.behind;
   is = x.is;
-  made = x.made;
-  none_back = x.none_back;
+  are_made = x.are_made;
+  unread = unread_as old middle x.front back c.names x.unread;
   fault = rose_from old.faults middle.faults new.faults c.faults_stay x.fault;
   some_left = x.some_left;
 }
 
-either_as : (topology : Topology) (of : Option (EdgeKind × List ℕ)) (calls : List (EdgeKind × List ℕ)) (back : List (List ℕ × SourceSeen)) (parts : ℕ) (call : EdgeKind × List ℕ) (old middle new : EdgesSeen) → Called old middle call
+either_as : (topology : Topology) (of calls : List (EdgeKind × List ℕ)) (back : List (List ℕ × SourceSeen)) (parts : ℕ) (call : EdgeKind × List ℕ) (old middle new : EdgesSeen) → Called old middle call
     → IsCut middle of calls back ⊎ IsFailedInPart topology of calls back parts middle new → IsCut old of calls back ⊎ IsFailedInPart topology of calls back parts old new
 either_as topology of calls back parts call old middle new c (inl x) = inl (cut_as old middle of calls back c.names x)
 either_as topology of calls back parts call old middle new c (inr x) = inr (failed_in_part_as topology of calls back parts call old middle new c x)
@@ -294,10 +340,11 @@ stage_cut_as feeds topology start rest call old middle new c x = record {
   at = x.at;
   spec = x.spec;
   here = x.here;
-  calls = x.calls;
+  made = x.made;
   back = x.back;
   parts = x.parts;
-  cut = either_as topology (call_of feeds x.spec) x.calls x.back x.parts call old middle new c x.cut;
+  more = x.more;
+  cut = either_as topology (stage_calls feeds x.spec) x.made x.back x.parts call old middle new c x.cut;
   to_come = x.to_come;
   control = x.control;
   lines = has_source old middle (control_call topology.control) None x.control c.names x.lines;
@@ -312,9 +359,9 @@ stage_cut_as feeds topology start rest call old middle new c x = record {
 opened_in_part_as : (feeds : Feeds) (topology : Topology) (rest : List (EdgeKind × List ℕ)) (call : EdgeKind × List ℕ) (old middle new : EdgesSeen) → Called old middle call
     → IsOpenedInPart feeds topology rest middle new → IsOpenedInPart feeds topology rest old new
 opened_in_part_as feeds topology rest call old middle new c (inl x) = inl (record {
-  calls = x.calls;
+  made = x.made;
   back = x.back;
-  cut = cut_as old middle (control_call topology.control) x.calls x.back c.names x.cut;
+  cut = cut_as old middle (one (control_call topology.control)) x.made x.back c.names x.cut;
   to_come = x.to_come;
   sources = x.sources ∙ ap (λ l. l ++ x.back) c.same_sources;
   sinks = x.sinks ∙ c.same_sinks;

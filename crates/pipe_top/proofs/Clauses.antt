@@ -17,7 +17,7 @@ use Rattle.topology_needs.specs.Needs.{shortage_of}
 use Rattle.config_table.specs.declared.fault.ConfigFault.{ConfigFault}
 use Rattle.config_flow.specs.Flow.{flow_topology_of}
 use Rattle.pipe_config.specs.File.{topology_of_file}
-use Rattle.pipe_top.specs.Cases.{Feeding, Named, MadeFrom, feeds_of, Case, NoCommand, NoTopology as BadTopology, TooFew, Checks, Upgrades, Audits, Rejects, Runs, audit_case, case_of, run_case, unless_short, for_topology, report_alone}
+use Rattle.pipe_top.specs.Cases.{Feeding, Named, Filed, MadeFrom, feeds_of, Case, NoCommand, NoTopology as BadTopology, TooFew, Checks, Upgrades, Audits, Rejects, Runs, audit_case, case_of, run_case, unless_short, for_topology, report_alone}
 use Rattle.run_verdicts.specs.Verdicts.{Adds, AddsPrefix, out_text_of, err_text_of, status_in, FaultBy, QuietBy, UnlessNine}
 use Rattle.pipe_top.specs.Runs.{OutsideSeen, IsRunOrNone, IsEndOf, IsOwnTopology, IsStatusOf, IsReportOf, IsRefusal, IsRefused, Lost, IsUntouched, HasUsed, HasNotBegun, HasRunOrNot, IsBrokenOff, IsGivenUp, IsOutsideOf, IsKnownStatus, IsRefusalStatus, IsUnopenedStatus, IsOr, Asks, FailsAt, NamesFault, IsEdgeLine, BeginsLine, out_text, text_of_call, case_line, error_text}
 use Rattle.pipe_top.specs.Flows.{Outcome, IsEarly, AskedBy}
@@ -439,7 +439,7 @@ some_number (Flow source prefix) file text found boxes = run_number boxes report
 some_number (Check path) file text found boxes = checked_number (topology_of_file file)
 some_number (Upgrade path) file text found boxes = upgraded_number (topology_of_file file) file text
 some_number (AuditOf journal path) file text found boxes = judged_number (topology_of_file file) journal found
-some_number (Run path workers acks steps) file text found boxes = loaded_number (topology_of_file file) boxes (record { steps = steps; acks = acks }) Named
+some_number (Run path workers acks steps) file text found boxes = loaded_number (topology_of_file file) boxes (record { steps = steps; acks = acks }) Filed
 some_number (Gen seed count path) file text found boxes = loaded_number (topology_of_file file) boxes report_alone (MadeFrom seed count)
 
 of_seven : (case : Case) → IsStatusOf 7 case → number case ≡ 0

@@ -1,8 +1,8 @@
 -- Where nothing failed, the run came to its end.
-use Rattle.std.proofs.Common.{◌≡◌, ◌≢◌, ◌<◌, ◌^◌, ℕ, suc, List, [], ◌∷◌, ◌++◌, length, Bool, true, false, refl, ap, ◌∙◌, subst, inl, inr, Option, Some, None, arith}
-use Rattle.std.specs.Prelude.{◌⊎◌, ◌&&◌, ◌||◌, All, IsTrue, is_some, find, nat_le, if◌then◌else◌}
+use Rattle.std.proofs.Common.{◌≡◌, ◌≢◌, ◌<◌, ◌^◌, ℕ, zero, suc, List, [], ◌∷◌, ◌++◌, length, Bool, true, false, refl, ap, sym, ◌∙◌, subst, inl, inr, Option, Some, None, arith}
+use Rattle.std.specs.Prelude.{◌⊎◌, ◌&&◌, ◌||◌, All, IsTrue, IfSome, IsSomeAnd, is_some, is_none, find, nat_le, if◌then◌else◌, take, drop, slice_get, option_map}
 use Rattle.std.specs.List.{list_any}
-use Rattle.std.proofs.lemmas.List.{take_all}
+use Rattle.std.proofs.lemmas.List.{append_assoc, take_all}
 use Rattle.std.proofs.lemmas.List.Elements.{All-nil, All-cons, All-head, All-tail}
 use Rattle.pipe_types.specs.Counts.{Rose}
 use Rattle.pipe_types.specs.Lines.{lines}
@@ -23,9 +23,11 @@ use Rattle.pipe_edges.specs.Paces.{Pace}
 use Rattle.pipe_edges.specs.declared.edges.EdgeKind.{EdgeKind}
 use Rattle.pipe_edges.specs.declared.edges.EdgeKind.TheVariants.{Source}
 use Rattle.journal_texts.specs.Report.{places, is_fault, is_lost, is_failed, is_source_fault}
-use Rattle.source_lines.specs.Cut.{HasShortLines}
+use Rattle.source_lines.specs.Cut.{AreLinesBeforeLong, HasShortLines}
+use Rattle.line_merge.specs.Items.{lines_from}
 use Rattle.pipe_laws.specs.Read.{HasNoControl}
-use Rattle.stage_bodies.specs.Seen.{SourceSeen, LineSeen, BodySeen}
+use Rattle.stage_bodies.specs.Seen.{SourceSeen, SourcesSeen, OneSource, ManySources, sources_out, LineSeen, BodySeen}
+use Rattle.stage_bodies.specs.Jobs.{Both}
 use Rattle.stage_bodies.specs.Posts.{place_at}
 use Rattle.stage_laws.proofs.Groups.{fields_of}
 use Rattle.body_laws.specs.Ready.{There}
@@ -34,14 +36,16 @@ use Rattle.pipe_laws.proofs.Tests.{and_left, and_right, clash, same_stage-true}
 use Rattle.edge_names.specs.Seen.{EdgesSeen}
 use Rattle.edge_names.specs.Opened.{supplied_in}
 use Rattle.edge_names.specs.Gates.{AreInner, IsInner, pace_of_stage}
-use Rattle.edge_names.specs.Supplies.{Feeds, Opened, Fed, fed as supplied_feed, feed_by, supplied, supplied_by}
+use Rattle.edge_names.specs.Supplies.{Feeds, Feed, Opened, Merged, Made, Fed, at_paces, by_name, fed as supplied_feed, feed_by, feed_of_text, given_back, split_feed, supplied, supplied_by, under_names}
+use Rattle.edge_names.specs.Named.{GivesSource}
+use Rattle.config_rule.specs.SourceText.{merged_in, parts, are_names}
 use Rattle.edge_names.specs.Controls.{named_control, first_sources}
-use Rattle.edge_names.specs.Returned.{fed_back, named_source, source_in, sources_of}
-use Rattle.pipe_run.specs.Outside.{HasControl, IsFedRead, IsOutside, ReadsSource}
+use Rattle.edge_names.specs.Returned.{feed_in, named_source, sources_of}
+use Rattle.pipe_run.specs.Outside.{HasControl, HasItsBytes, IsFedRead, IsOutside, ReadsMerge, ReadsSource}
 use Rattle.pipe_run.specs.Whole.{HasCome}
 use Rattle.run_verdicts.specs.Verdicts.{status_in}
 use Rattle.pipe_top.specs.Runs.{OutsideSeen, IsRun, IsEnded, HasUsed, IsOutsideOf, IsFaultless, AreFaultless, IsReadWhole, IsComplete, IsCompleteIn, is_limit_drain, is_control_drain, is_idle_drain}
-use Rattle.pipe_top.specs.Cases.{Feeding, Named, MadeFrom, feeds_of, Case, NoCommand, NoTopology as BadTopology, TooFew, Checks, Upgrades, Audits, Rejects, Runs}
+use Rattle.pipe_top.specs.Cases.{Feeding, Named, Filed, MadeFrom, feeds_of, Case, NoCommand, NoTopology as BadTopology, TooFew, Checks, Upgrades, Audits, Rejects, Runs}
 use Rattle.pipe_top.specs.Flows.{IsFew, Outcome}
 use Rattle.run_verdicts.specs.declared.verdict.Refusal.TheVariants.{Memory}
 use Rattle.run_verdicts.specs.declared.verdict.Texts.{Texts}
@@ -56,11 +60,10 @@ use Rattle.pipe_top.proofs.Statuses.{gravest_small, clean_status}
 
 -- ---- the sources of a whole run
 
--- the source of the producer is faultless, and was read as the journal says
-pub record IsWellRead (before : History) (p : StageNo) : Type 0 where
-  pub source : SourceSeen
-  pub reads : ReadsSource before p source
-  pub fine : IsFaultless source
+-- the source of the producer is faultless, and was read as the journal says; or so are those of its merge
+pub data IsWellRead (before : History) (p : StageNo) : Type 0 where
+  one_read : (source : SourceSeen) → ReadsSource before p source → IsFaultless source → IsWellRead before p
+  all_read : (sources : List SourceSeen) → ReadsMerge before p sources → ((k : ℕ) → IfSome (slice_get sources k) IsFaultless) → IsWellRead before p
 
 abbrev pub AreWellRead : Topology → History → Type 0
 AreWellRead topology before = (p : StageNo) → has_role topology p is_producer_role ≡ true → IsWellRead before p
@@ -97,18 +100,56 @@ has_edge topology p spec sound found producer =
     let fields : is_producer_in topology.stages spec ≡ true = fields_of topology p spec Producer sound found producer in
     and_right (is_size spec.size) _ (and_right (by_demand spec spec.dispatch || (by_partition (length (processors topology.stages)) spec spec.dispatch && nat_le spec.field 255)) _ (and_left ((by_demand spec spec.dispatch || (by_partition (length (processors topology.stages)) spec spec.dispatch && nat_le spec.field 255)) && (is_size spec.size && is_some spec.edge)) _ fields))
 
-source_well_read : (topology : Topology) (before : History) (old new : EdgesSeen) (p : StageNo) (spec : StageSpec) (pace : Option Pace) (name : List ℕ) (o : Option SourceSeen) → (outside : IsOutside (feeds_of Named topology) true topology before old new)
-    → source_in (outside.bodies (place_at (post p 0))) ≡ o → supplied (feeds_of Named topology) spec ≡ Some (Fed pace (Opened name)) → There o (IsFedRead true old before p pace (Opened name))
-    → All (λ (given : List ℕ × SourceSeen). IsFaultless given.1) (named_source (supplied (feeds_of Named topology) spec) (outside.bodies (place_at (post p 0)))) → IsWellRead before p
-source_well_read topology before old new p spec pace name None outside is call there each = absurd there
-source_well_read topology before old new p spec pace name (Some source) outside is call there each = record {
-  source = source;
-  reads = there.read.reads;
-  fine = All-head (λ (given : List ℕ × SourceSeen). IsFaultless given.1) (name, source) [] (subst (All (λ (given : List ℕ × SourceSeen). IsFaultless given.1)) given each);
-}
-  where
-    given : named_source (supplied (feeds_of Named topology) spec) (outside.bodies (place_at (post p 0))) ≡ (name, source) ∷ []
-    given = ap (λ c. named_source c (outside.bodies (place_at (post p 0)))) call ∙ ap (fed_back (Some (Fed pace (Opened name)))) is
+-- ---- by what it opens
+
+abbrev is_made : Feed → Bool
+is_made (Made bytes) = true
+is_made (Opened name) = false
+is_made (Merged names) = false
+
+made_by : (is : Bool) (names : List (List ℕ)) (text : List ℕ) → is_made (if is then Merged names else Opened text) ≡ false
+made_by true names text = refl
+made_by false names text = refl
+
+split_made : (names : Option (List ℕ)) (text : List ℕ) → is_made (split_feed names text) ≡ false
+split_made (Some names) text = made_by (are_names (parts names)) (parts names) text
+split_made None text = refl
+
+-- what a text names is not made
+text_made : (splits : Bool) (text : List ℕ) → is_made (feed_of_text splits text) ≡ false
+text_made true text = split_made (merged_in text) text
+text_made false text = refl
+
+-- a source that was given back is faultless
+abbrev IsFine : List ℕ × SourceSeen → Type 0
+IsFine given = IsFaultless given.1
+
+-- each source of a merge was given back under its name
+fine_under : (names : List (List ℕ)) (sources : List SourceSeen) → ((k : ℕ) → Both (λ name source. Unit {0}) (slice_get names k) (slice_get sources k)) → All IsFine (under_names names sources)
+    → (k : ℕ) → IfSome (slice_get sources k) IsFaultless
+fine_under names [] paired each k = tt
+fine_under [] (s ∷ sources) paired each k = absurd (paired 0)
+fine_under (n ∷ names) (s ∷ sources) paired each zero = All-head IsFine (n, s) (under_names names sources) each
+fine_under (n ∷ names) (s ∷ sources) paired each (suc k) = fine_under names sources (λ j. paired (suc j)) (All-tail IsFine (n, s) (under_names names sources) each) k
+
+pair_up : {A B C : Type 0} (R : A → B → Type 0) (S : B → C → Type 0) (x : Option A) (y : Option B) (z : Option C) → Both R x y → Both S y z → Both (λ a c. Unit {0}) x z
+pair_up R S (Some a) (Some b) (Some c) r s = tt
+pair_up R S None None None r s = tt
+pair_up R S (Some a) (Some b) None r s = absurd s
+pair_up R S (Some a) None z r s = absurd r
+pair_up R S None (Some b) z r s = absurd r
+pair_up R S None None (Some c) r s = absurd s
+
+fed_well_read : (edges : EdgesSeen) (before : History) (p : StageNo) (pace : Option Pace) (feed : Feed) (o : Option SourcesSeen) → is_made feed ≡ false → There o (IsFedRead true edges before p pace feed)
+    → All IsFine (given_back (Some feed) o) → IsWellRead before p
+fed_well_read edges before p pace feed None named there each = absurd there
+fed_well_read edges before p pace (Opened name) (Some (OneSource source)) named there each = one_read source there.read.reads (All-head IsFine (name, source) [] each)
+fed_well_read edges before p pace (Merged names) (Some (ManySources sources)) named there each =
+    all_read sources there.read.reads
+    (fine_under names sources (λ k. pair_up (GivesSource edges) HasItsBytes (slice_get names k) (slice_get there.read.opened k) (slice_get sources k) (there.read.given k) (there.read.same k)) each)
+fed_well_read edges before p pace (Opened name) (Some (ManySources sources)) named there each = absurd there.read
+fed_well_read edges before p pace (Merged names) (Some (OneSource source)) named there each = absurd there.read
+fed_well_read edges before p pace (Made bytes) (Some sources) named there each = let x : true ≡ false = named in cc
 
 -- a source in its gate is faultless where it is without it
 fine_gated : (gated inner : SourceSeen) → IsInner gated inner → IsFaultless inner → IsFaultless gated
@@ -130,14 +171,17 @@ fine_all [] (i ∷ inner) are each = absurd are
 fine_all (g ∷ gated) [] are each = absurd are
 
 -- all that a whole run gave back, the control source first, is faultless as it stood in its gate
-given_back : (feeds : Feeds) (topology : Topology) (before : History) (old new : EdgesSeen) → (outside : IsOutside feeds true topology before old new) → AreFaultless old new
-    → All (λ (given : List ℕ × SourceSeen). IsFaultless given.1) (named_control topology.control outside.control ++ sources_of feeds topology.stages outside.bodies)
-given_back feeds topology before old new outside faultless =
-    let gated = fine_all (first_sources feeds outside.parts topology outside.control outside.bodies) outside.inner outside.ungated (faultless outside.inner outside.sources) in
-    let first : All (λ (given : List ℕ × SourceSeen). IsFaultless given.1) (first_sources feeds (suc (length topology.stages)) topology outside.control outside.bodies) =
-    subst (λ n. All (λ (given : List ℕ × SourceSeen). IsFaultless given.1) (first_sources feeds n topology outside.control outside.bodies)) (outside.all refl) gated
-    in
-    subst (λ stages. All (λ (given : List ℕ × SourceSeen). IsFaultless given.1) (named_control topology.control outside.control ++ sources_of feeds stages outside.bodies)) (take_all (length topology.stages) topology.stages (omega arith)) first
+all_back : (feeds : Feeds) (topology : Topology) (before : History) (old new : EdgesSeen) → (outside : IsOutside feeds true topology before old new) → AreFaultless old new
+    → All IsFine (named_control topology.control outside.control ++ sources_of feeds topology.stages outside.bodies)
+all_back feeds topology before old new outside faultless =
+    let stages = topology.stages in
+    let front = named_control topology.control outside.control in
+    let most = sources_of feeds (take (length stages) stages) outside.bodies in
+    let last = take outside.more (sources_of feeds (take 1 (drop (length stages) stages)) outside.bodies) in
+    let gated = fine_all (first_sources feeds outside.parts outside.more topology outside.control outside.bodies) outside.inner outside.ungated (faultless outside.inner outside.sources) in
+    let each : All IsFine (front ++ (most ++ last)) = subst (λ n. All IsFine (first_sources feeds n outside.more topology outside.control outside.bodies)) (outside.all refl) gated in
+    let first = All-front IsFine (front ++ most) last (subst (All IsFine) (sym (append_assoc front most last)) each) in
+    subst (λ (xs : List StageSpec). All IsFine (front ++ sources_of feeds xs outside.bodies)) (take_all (length stages) stages (omega arith)) first
 
 -- the control source did not end with a fault or with a line that is too long
 abbrev IsControlFine : History → Type 0
@@ -161,28 +205,31 @@ pub control_fine : (feeds : Feeds) (topology : Topology) (before : History) (old
 control_fine feeds topology before old new none outside faultless =
     control_well_read topology before old topology.control outside.control none outside.obeyed
     (All-front (λ (given : List ℕ × SourceSeen). IsFaultless given.1) (named_control topology.control outside.control) (sources_of feeds topology.stages outside.bodies)
-    (given_back feeds topology before old new outside faultless))
+    (all_back feeds topology before old new outside faultless))
 
-named_well_read : (topology : Topology) (before : History) (old new : EdgesSeen) → IsSound topology → IsOutside (feeds_of Named topology) true topology before old new → AreFaultless old new → AreWellRead topology before
-named_well_read topology before old new sound outside faultless p role =
+named_well_read : (splits : Bool) (topology : Topology) (before : History) (old new : EdgesSeen) → IsSound topology → IsOutside (at_paces topology (by_name splits)) true topology before old new → AreFaultless old new → AreWellRead topology before
+named_well_read splits topology before old new sound outside faultless p role =
     let found = some_role topology p is_producer_role role in
     by_edge found.0 found.1 (producer_is found.0.role found.2) found.0.edge refl
   where
-    back : All (λ (given : List ℕ × SourceSeen). IsFaultless given.1) (sources_of (feeds_of Named topology) topology.stages outside.bodies)
-    back =
-        All-back (λ (given : List ℕ × SourceSeen). IsFaultless given.1) (named_control topology.control outside.control) (sources_of (feeds_of Named topology) topology.stages outside.bodies)
-        (given_back (feeds_of Named topology) topology before old new outside faultless)
+    feeds : Feeds
+    feeds = at_paces topology (by_name splits)
+
+    back : All IsFine (sources_of feeds topology.stages outside.bodies)
+    back = All-back IsFine (named_control topology.control outside.control) (sources_of feeds topology.stages outside.bodies) (all_back feeds topology before old new outside faultless)
 
     by_edge : (spec : StageSpec) → spec_of topology p ≡ Some spec → spec.role ≡ Producer → (o : Option (List ℕ)) → spec.edge ≡ o → IsWellRead before p
     by_edge spec found producer None is =
         let some : is_some spec.edge ≡ true = has_edge topology p spec sound found producer in
         clash (is_some spec.edge) some (ap is_some is)
-    by_edge spec found producer (Some name) is =
+    by_edge spec found producer (Some text) is =
         let pace = pace_of_stage topology spec in
-        let call : supplied (feeds_of Named topology) spec ≡ Some (Fed pace (Opened name)) = ap (λ r. supplied_by r pace (feed_by spec.edge) spec.edge) producer ∙ ap (λ o. supplied_feed pace (feed_by o)) is in
-        source_well_read topology before old new p spec pace name (source_in (outside.bodies (place_at (post p 0)))) outside refl call
-        (outside.used.sources p pace (Opened name) (ap (supplied_in (feeds_of Named topology)) found ∙ call))
-        (given_of (feeds_of Named topology) (λ given. IsFaultless given.1) outside.bodies p spec topology.stages found back)
+        let feed = feed_of_text splits text in
+        let body = outside.bodies (place_at (post p 0)) in
+        let call : supplied feeds spec ≡ Some (Fed pace feed) = ap (λ r. supplied_by r pace (feed_by splits spec.edge) spec.edge) producer ∙ ap (λ o. supplied_feed pace (feed_by splits o)) is in
+        let mine : All IsFine (given_back (Some feed) (option_map sources_out (feed_in body))) =
+        subst (λ what. All IsFine (named_source what body)) call (given_of feeds IsFine outside.bodies p spec topology.stages found back) in
+        fed_well_read old before p pace feed (option_map sources_out (feed_in body)) (text_made splits text) (outside.used.sources p pace feed (ap (supplied_in feeds) found ∙ call)) mine
 
 not_risen : (now : ℕ) → now ≡ 0 → Rose 0 now → ⊥
 not_risen now none (inl low) = omega (arith, none, low)
@@ -193,29 +240,40 @@ made_well_read : (seed count : ℕ) (topology : Topology) (before : History) (ol
     → AreWellRead topology before
 made_well_read seed count topology before old new sound few outside p role =
     let share = share_read seed count topology before old new true sound few outside p role in
-    record {
-      source = share.source;
-      reads = share.made.reads;
-      fine = record {
-        no_fault = not_risen share.source.faults (share.made.calm refl).0;
-        tells = share.made.tells;
-        short = share.short;
-      };
-    }
+    one_read share.source share.made.reads (record {
+      no_fault = not_risen share.source.faults (share.made.calm refl).0;
+      tells = share.made.tells;
+      short = share.short;
+    })
 
 pub well_read : (feeding : Feeding) (topology : Topology) (before : History) (old new : EdgesSeen) → IsSound topology → IsFew feeding → IsOutside (feeds_of feeding topology) true topology before old new → AreFaultless old new
     → AreWellRead topology before
-well_read Named topology before old new sound few outside faultless = named_well_read topology before old new sound outside faultless
+well_read Named topology before old new sound few outside faultless = named_well_read false topology before old new sound outside faultless
+well_read Filed topology before old new sound few outside faultless = named_well_read (is_none topology.rate) topology before old new sound outside faultless
 well_read (MadeFrom seed count) topology before old new sound few outside faultless = made_well_read seed count topology before old new sound few outside
 
 -- ---- how it ended
+
+risen_there : (o : Option SourceSeen) → IsSomeAnd o (λ s. Rose 0 s.faults) → IfSome o IsFaultless → ⊥
+risen_there None rose fine = absurd rose
+risen_there (Some s) rose fine = fine.no_fault rose
+
+long_there : (records : List (List ℕ)) (o : Option SourceSeen) → IsSomeAnd o (λ s. IsTrue s.told → AreLinesBeforeLong (s.taken ++ s.left) records) → IfSome o IsFaultless → ⊥
+long_there records None long fine = absurd long
+long_there records (Some s) long fine = not_long (s.taken ++ s.left) records (long fine.tells) fine.short
 
 -- a faultless source did not end with a fault or with a line that is too long
 fine_end : (before : History) (p : StageNo) (end : SourceHow) → source_end before p ≡ Some end → IsWellRead before p → is_fault end ≡ false
 fine_end before p how.End is w = refl
 fine_end before p how.Limit is w = refl
-fine_end before p how.Fault is w = absurd (w.fine.no_fault (w.reads.fault is))
-fine_end before p how.TooLong is w = absurd (not_long (w.source.taken ++ w.source.left) (fed before p) (w.reads.too_long w.fine.tells is) w.fine.short)
+fine_end before p how.Fault is (one_read source reads fine) = absurd (fine.no_fault (reads.fault is))
+fine_end before p how.Fault is (all_read sources reads fine) =
+    let f = reads.fault is in
+    absurd (risen_there (slice_get sources f.0) f.1 (fine f.0))
+fine_end before p how.TooLong is (one_read source reads fine) = absurd (not_long (source.taken ++ source.left) (fed before p) (reads.too_long fine.tells is) fine.short)
+fine_end before p how.TooLong is (all_read sources reads fine) =
+    let f = reads.too_long is in
+    absurd (long_there (lines_from f.0 reads.order) (slice_get sources f.0) f.1 (fine f.0))
 
 -- an end that is neither bad nor at a limit is the end of the source
 end_is : (before : History) (p : StageNo) (end : Option SourceHow) → source_end before p ≡ end → is_some end ≡ true → ends_limited end ≡ false → IsWellRead before p → source_end before p ≡ Some how.End

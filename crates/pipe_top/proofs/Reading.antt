@@ -17,7 +17,7 @@ use Rattle.run_verdicts.specs.declared.audits.AuditFault.{AuditFault}
 use Rattle.program_words.specs.Words.{Command, Flow, Check, Run, Gen, Upgrade, Audit as AuditOf}
 use Rattle.edge_names.specs.Seen.{EdgesSeen}
 use Rattle.topology_needs.specs.declared.stock.Boxes.{Boxes}
-use Rattle.pipe_top.specs.Cases.{Feeding, Named, MadeFrom, Case, Checks, Upgrades, audit_case, case_of, run_case, for_topology, report_alone, opening_calls, calls_of, file_name, IsNamedFile}
+use Rattle.pipe_top.specs.Cases.{Feeding, Named, Filed, MadeFrom, Case, Checks, Upgrades, audit_case, case_of, run_case, for_topology, report_alone, opening_calls, calls_of, file_name, IsNamedFile}
 use Rattle.pipe_top.specs.Runs.{OutsideSeen, IsUntouched, Asks, FailsAt}
 use Rattle.pipe_top.specs.Flows.{IsCheckedOrNot, IsUpgraded, ComesBy, Came, ComesAudited, ReadsFile, ReadsTopology, ReadsUpgrade, UpgradesTo, IsTextOf, topology_beside, AskedFile}
 use Rattle.pipe_top.specs.declared.file.Upgraded.{Upgraded}
@@ -293,15 +293,15 @@ audit_unread old new boxes journal name refusal topology before verdict r is non
 
 pub run_came : (old : OutsideSeen) (middle : EdgesSeen) (new : OutsideSeen) (boxes : Boxes) (name : List ℕ) (workers : ℕ) (acks steps : Bool) (wanted : Topology) (topology : Option Topology) (before : History) (verdict : Verdict)
     → ReadsFile old.edges middle name topology_of_file (Ok wanted)
-    → ComesBy (record old { edges = middle }) new (run_case boxes (record { steps = steps; acks = acks }) Named wanted)
-    (opening_calls (run_case boxes (record { steps = steps; acks = acks }) Named wanted)) topology before verdict
+    → ComesBy (record old { edges = middle }) new (run_case boxes (record { steps = steps; acks = acks }) Filed wanted)
+    (opening_calls (run_case boxes (record { steps = steps; acks = acks }) Filed wanted)) topology before verdict
     → Came old new (Some (Run name workers acks steps)) boxes topology before verdict
 run_came old middle new boxes name workers acks steps wanted topology before verdict r x = record {
   file = r.file;
   text = [];
   found = Err Large;
   is_file = r.is_file;
-  comes = loaded old middle new (run_case boxes (record { steps = steps; acks = acks }) Named) name wanted topology before verdict r x;
+  comes = loaded old middle new (run_case boxes (record { steps = steps; acks = acks }) Filed) name wanted topology before verdict r x;
 }
 
 pub run_unread : (old new : OutsideSeen) (boxes : Boxes) (name : List ℕ) (workers : ℕ) (acks steps : Bool) (refusal : Refusal) (topology : Option Topology) (before : History) (verdict : Verdict)
@@ -313,7 +313,7 @@ run_unread old new boxes name workers acks steps refusal topology before verdict
   text = [];
   found = Err Large;
   is_file = r.is_file;
-  comes = unread old new (run_case boxes (record { steps = steps; acks = acks }) Named) name refusal topology before verdict is none
+  comes = unread old new (run_case boxes (record { steps = steps; acks = acks }) Filed) name refusal topology before verdict is none
       (untouched old new name (Err refusal) r clock same) r;
 }
 

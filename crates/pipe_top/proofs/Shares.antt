@@ -1,6 +1,6 @@
 -- What a run over generated records read of them.
 use Rattle.std.proofs.Common.{◌≡◌, ◌-◌, ◌<◌, ◌≤◌, ◌^◌, ℕ, List, [], ◌∷◌, ◌++◌, length, Bool, true, Option, Some, None, refl, sym, ◌∙◌, ap, subst, inl, inr, arith}
-use Rattle.std.specs.Prelude.{◌⊎◌, All, ◌==◌, ◌&&◌}
+use Rattle.std.specs.Prelude.{◌⊎◌, All, ◌==◌, ◌&&◌, option_map}
 use Rattle.pipe_types.specs.Numbers.{post}
 use Rattle.pipe_types.specs.Sound.{IsSound, is_ordered, is_producer, may_begin, may_go_on, batchers, producers}
 use Rattle.pipe_types.specs.Stages.{spec_of}
@@ -15,7 +15,7 @@ use Rattle.pipe_edges.specs.Paces.{Pace, unpaced}
 use Rattle.pipe_edges.specs.Texts.{IsLine, ended}
 use Rattle.pipe_edges.specs.declared.edges.EdgeKind.{EdgeKind}
 use Rattle.source_lines.specs.Cut.{HasShortLines}
-use Rattle.stage_bodies.specs.Seen.{SourceSeen}
+use Rattle.stage_bodies.specs.Seen.{SourceSeen, SourcesSeen, OneSource, ManySources, sources_out}
 use Rattle.stage_bodies.specs.Posts.{place_at}
 use Rattle.stage_laws.proofs.Numbering.{numbered_topology}
 use Rattle.pipe_laws.proofs.Tests.{and_left, and_right}
@@ -25,13 +25,13 @@ use Rattle.edge_names.specs.Seen.{EdgesSeen}
 use Rattle.edge_names.specs.Opened.{supplied_in}
 use Rattle.edge_names.specs.Gates.{pace_by, pace_of_stage}
 use Rattle.edge_names.specs.Supplies.{Fed, Made, Supplied, supplied, supplied_by}
-use Rattle.edge_names.specs.Returned.{source_in}
+use Rattle.edge_names.specs.Returned.{feed_in}
 use Rattle.made_sources.specs.Records.{records_made}
 use Rattle.made_sources.specs.Feeds.{made_feeds}
 use Rattle.made_sources.proofs.Lines.{made_lines}
 use Rattle.pipe_run.specs.Outside.{IsFedRead, IsMadeRead, IsOutside, KeepsItsPace}
 use Rattle.pipe_run.proofs.Records.{reads_records, short_ended}
-use Rattle.pipe_top.specs.Cases.{Case, NoCommand, NoTopology as BadTopology, TooFew, Checks, Upgrades, Audits, Rejects, Runs, Feeding, Named, MadeFrom, feeds_of, origin_of}
+use Rattle.pipe_top.specs.Cases.{Case, NoCommand, NoTopology as BadTopology, TooFew, Checks, Upgrades, Audits, Rejects, Runs, Feeding, Named, Filed, MadeFrom, feeds_of, origin_of}
 use Rattle.pipe_top.specs.Runs.{OutsideSeen, HasUsed, IsOutsideOf, ReadShares, AreShares, ReadsGenerated}
 use Rattle.pipe_top.specs.Flows.{IsFew, Outcome}
 use Rattle.run_verdicts.specs.declared.verdict.Verdict.{Verdict}
@@ -77,10 +77,11 @@ made_supplied seed count topology p spec number producer =
     ap (λ (r : Role). supplied_by r (pace_of_stage topology spec) (origin_of (MadeFrom seed count) topology spec) spec.edge) producer
     ∙ ap (λ (n : StageNo). Some (Fed (pace_of_stage topology spec) (Made (ended (share seed count topology n))))) number
 
-there_is : (seed count : ℕ) (topology : Topology) (before : History) (old : EdgesSeen) (whole : Bool) (p : StageNo) (spec : StageSpec) (o : Option SourceSeen) → count < 2 ^ 32
+there_is : (seed count : ℕ) (topology : Topology) (before : History) (old : EdgesSeen) (whole : Bool) (p : StageNo) (spec : StageSpec) (o : Option SourcesSeen) → count < 2 ^ 32
     → There o (IsFedRead whole old before p (pace_of_stage topology spec) (Made (ended (share seed count topology p)))) → IsShareRead seed count topology before whole p
 there_is seed count topology before old whole p spec None few made = absurd made
-there_is seed count topology before old whole p spec (Some source) few made =
+there_is seed count topology before old whole p spec (Some (ManySources sources)) few made = absurd made.read
+there_is seed count topology before old whole p spec (Some (OneSource source)) few made =
     let lines = (made_lines seed (length (producers topology.stages)) (p.0 - 1) count few).1 in
     record {
       source = source;
@@ -96,7 +97,7 @@ share_read seed count topology before old new whole sound few outside p role =
     let found = some_role topology p is_producer_role role in
     let number = (numbered_topology topology sound).named p found.0 found.1 in
     let supply = made_supplied seed count topology p found.0 number (producer_is found.0.role found.2) in
-    there_is seed count topology before old whole p found.0 (source_in (outside.bodies (place_at (post p 0)))) few
+    there_is seed count topology before old whole p found.0 (option_map sources_out (feed_in (outside.bodies (place_at (post p 0))))) few
     (outside.used.sources p (pace_of_stage topology found.0) (Made (ended (share seed count topology p))) (ap (supplied_in (feeds_of (MadeFrom seed count) topology)) found.1 ∙ supply))
 
 shares_read : (seed count : ℕ) (memory : Type 0) (wanted : Topology) (before : History) (old new : OutsideSeen) → IsSound wanted → count < 2 ^ 32 → HasUsed (feeds_of (MadeFrom seed count) wanted) memory wanted before old new
@@ -114,6 +115,7 @@ shares_read seed count memory wanted before old new sound few used = record {
 by_feeding : (feeding : Feeding) (memory : Type 0) (wanted : Topology) (before : History) (old new : OutsideSeen) → IsSound wanted → IsFew feeding → HasUsed (feeds_of feeding wanted) memory wanted before old new
     → AreShares memory (Some wanted) feeding wanted before
 by_feeding Named memory wanted before old new sound few used = tt
+by_feeding Filed memory wanted before old new sound few used = tt
 by_feeding (MadeFrom seed count) memory wanted before old new sound few used = shares_read seed count memory wanted before old new sound few used
 
 pub generated_in : (case : Case) (fails : List ℕ → Type 0) (memory : Type 0) (calls : List (EdgeKind × List ℕ)) (topology : Option Topology) (before : History) (verdict : Verdict) (old new : OutsideSeen)

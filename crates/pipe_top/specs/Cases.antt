@@ -1,5 +1,5 @@
 -- What the words, the topology file and the stock of callbacks come to.
-use Rattle.std.specs.Prelude.{◌≡◌, ℕ, Bool, false, List, [], ◌∷◌, ◌++◌, length, take, IsTrue, Option, Some, None, Result, Ok, Err}
+use Rattle.std.specs.Prelude.{◌≡◌, ℕ, Bool, false, List, [], ◌∷◌, ◌++◌, length, take, IsTrue, is_none, Option, Some, None, Result, Ok, Err}
 use Rattle.pipe_types.specs.Sound.{producers}
 use Rattle.pipe_types.specs.declared.topology.StageSpec.{StageSpec}
 use Rattle.pipe_types.specs.declared.topology.Topology.{Topology}
@@ -19,14 +19,16 @@ use Rattle.topology_needs.specs.Needs.{shortage_of}
 use Rattle.run_verdicts.specs.declared.audits.AuditFault.{AuditFault}
 use Rattle.run_verdicts.specs.declared.verdict.Shows.{Shows}
 
--- how the producers of a run come to their sources: each opens the source that it names, or reads its share of so many records
--- that a seed gives
+-- how the producers of a run come to their sources: each opens the one source that it names; or that, or the merge of those, which its
+-- topology file names, though not beside a rate; or each reads its share of so many records that a seed gives
 pub data Feeding : Type 0 where
   Named : Feeding
+  Filed : Feeding
   MadeFrom : (seed count : ℕ) → Feeding
 
 abbrev pub origin_of : Feeding → Topology → (StageSpec → Option Feed)
-origin_of Named topology = by_name
+origin_of Named topology = by_name false
+origin_of Filed topology = by_name (is_none topology.rate)
 origin_of (MadeFrom seed count) topology = made_feeds seed count (length (producers topology.stages))
 
 -- the same, each in its gate where the topology has a rate
@@ -76,7 +78,7 @@ case_of (Some (Flow source prefix)) file text found boxes = run_case boxes repor
 case_of (Some (Check path)) file text found boxes = for_topology (topology_of_file file) Checks
 case_of (Some (Upgrade path)) file text found boxes = for_topology (topology_of_file file) (Upgrades file text)
 case_of (Some (Audit journal path)) file text found boxes = for_topology (topology_of_file file) (audit_case journal found)
-case_of (Some (Run path workers acks steps)) file text found boxes = for_topology (topology_of_file file) (run_case boxes (record { steps = steps; acks = acks }) Named)
+case_of (Some (Run path workers acks steps)) file text found boxes = for_topology (topology_of_file file) (run_case boxes (record { steps = steps; acks = acks }) Filed)
 case_of (Some (Gen seed count path)) file text found boxes = for_topology (topology_of_file file) (run_case boxes report_alone (MadeFrom seed count))
 
 -- ---- names

@@ -19,7 +19,7 @@ use Rattle.topology_needs.specs.declared.stock.Boxes.{Boxes}
 use Rattle.topology_needs.specs.declared.stock.Shortage.{Shortage}
 use Rattle.run_verdicts.specs.Judged.{Summary, Legal, Bad, verdict_in, IsLegalText}
 use Rattle.pipe_top.specs.Audits.{IsAuditOf, IsFound, FaultHasCause, MayBeBack}
-use Rattle.pipe_top.specs.Cases.{Feeding, Named, MadeFrom, origin_of, Case, NoCommand, NoTopology as BadTopology, TooFew, Checks, Upgrades, Audits, Rejects, Runs, audit_case, case_of, calls_of, file_name, IsNamedFile}
+use Rattle.pipe_top.specs.Cases.{Feeding, Named, Filed, MadeFrom, origin_of, Case, NoCommand, NoTopology as BadTopology, TooFew, Checks, Upgrades, Audits, Rejects, Runs, audit_case, case_of, calls_of, file_name, IsNamedFile}
 use Rattle.run_verdicts.specs.Audits.{legal_text}
 use Rattle.run_verdicts.specs.Verdicts.{whole_text, status_in}
 use Rattle.run_verdicts.specs.declared.audits.AuditFault.{AuditFault}
@@ -96,6 +96,7 @@ IsAuditedOrNot summary wanted topology before verdict = IsRefusedBy Memory topol
 -- the number of each record that is generated fits 32 bits
 abbrev pub IsFew : Feeding → Type 0
 IsFew Named = Unit {0}
+IsFew Filed = Unit {0}
 IsFew (MadeFrom seed count) = count < 2 ^ 32
 
 -- a supply feeds the producers of this topology so

@@ -151,8 +151,9 @@ fn run_flow<
         steps: false,
         acks: false,
     };
+    let supply = ByName::as_it_stands(alloc);
     run_or_refuse::<R, E, ByName, C, B, K>(
-        rt, alloc, &ByName, topology, 1, shows, stock, edges, clock,
+        rt, alloc, &supply, topology, 1, shows, stock, edges, clock,
     )
 }
 
@@ -252,17 +253,20 @@ fn run_file<
         acks: words.acks,
     };
     match read_named(alloc, words.topology, edges) {
-        Ok(topology) => run_or_refuse::<R, E, ByName, C, B, K>(
-            rt,
-            alloc,
-            &ByName,
-            topology,
-            words.workers,
-            shows,
-            stock,
-            edges,
-            clock,
-        ),
+        Ok(topology) => {
+            let supply = ByName::of_file(alloc, &topology);
+            run_or_refuse::<R, E, ByName, C, B, K>(
+                rt,
+                alloc,
+                &supply,
+                topology,
+                words.workers,
+                shows,
+                stock,
+                edges,
+                clock,
+            )
+        }
         Err(refusal) => refused(alloc, refusal, stock, clock),
     }
 }

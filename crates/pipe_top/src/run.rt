@@ -4,7 +4,7 @@ ghost use Rattle.std.specs.Prelude.{◌≡◌, ◌≢◌, ◌⊎◌, ◌≤◌, 
 ghost use Rattle.pipe_types.specs.Sound.{IsSound};
 ghost use Rattle.core_state.specs.Stands.{Stands};
 ghost use Rattle.pipe_run.specs.{Clocks.{clock_seen}, Whole.{HasCome}};
-ghost use Rattle.edge_names.specs.{Supplies.{FeedsProducers}, Controls.{run_calls}};
+ghost use Rattle.edge_names.specs.{Supplies.{FeedsProducers, IsUnmerged}, Controls.{run_calls}};
 ghost use Rattle.box_stock.specs.{Homes.{Suffices}, Lends.{kinds_of}};
 ghost use Rattle.topology_needs.specs.Needs.{boxes_in as boxes_by_kind, shortage_of};
 ghost use Rattle.pipe_top.specs.{Cases.{Feeding, feeds_of, Runs, run_case, opening_calls}, Flows.{IsFedBy, IsJudgement, ComesBy, refusal_in}};
@@ -72,6 +72,7 @@ pub(crate) fn run_or_refuse<
 ) -> Ran<C, K>
     requires sound { IsSound topology }
     requires fed { FeedsProducers (Q.feeds supply.now) topology }
+    requires unmerged { IsUnmerged topology (Q.feeds supply.now) }
     ensures comes { (feeding : Feeding) → IsFedBy feeding topology (Q.feeds supply.now) → ComesBy
         (record { edges = ⟦<E as SeenEdges>⟧.seen edges.old; clock = clock_seen K.latest K.readings K.pauses clock; boxes = map C.seen stock.items })
         (record { edges = ⟦<E as SeenEdges>⟧.seen edges.new; clock = clock_seen K.latest K.readings K.pauses result.clock; boxes = map C.seen result.stock.items })
@@ -116,6 +117,7 @@ fn run_supplied<
 ) -> Ran<C, K>
     requires sound { IsSound topology }
     requires fed { FeedsProducers (Q.feeds supply.now) topology }
+    requires unmerged { IsUnmerged topology (Q.feeds supply.now) }
     requires suffices { Suffices topology (kinds_of C.seen stock.items) }
     ensures comes { (feeding : Feeding) → IsFedBy feeding topology (Q.feeds supply.now) → ComesBy
         (record { edges = ⟦<E as SeenEdges>⟧.seen edges.old; clock = clock_seen K.latest K.readings K.pauses clock; boxes = map C.seen stock.items })

@@ -1,6 +1,6 @@
 //! A source in its gate.
 
-ghost use Rattle.std.specs.Prelude.{◌≡◌, ◌<◌, ◌≤◌, ℕ, List, [], Some, length, IsTrue, IfOk, IfErr, option_map};
+ghost use Rattle.std.specs.Prelude.{◌≡◌, ◌<◌, ◌≤◌, ℕ, List, [], None, Some, length, IsTrue, IfOk, IfErr, option_map};
 ghost use Rattle.pipe_edges.specs.{Reads.{ReadsBytes, ReadIsCounted, ReadHasCause}, Paces.{PaceSeen, ReadIsPaced, told_at}};
 ghost use Rattle.rate_gate.specs.Gate.{pace_of, moment_of, given_of};
 
@@ -33,6 +33,14 @@ impl<B: ByteSource> GatedSource<B> {
     ghost use Rattle.rate_gate.specs.Fresh.{front_of};
     ghost use Rattle.rate_gate.specs.Gated.{HoldsLastBy};
 
+    /// The source without a gate.
+    pub fn plain(inner: B) -> GatedSource<B>
+        ensures inner { result.inner ≡ inner }
+        ensures front { result.front ≡ None }
+    {
+        GatedSource { inner, front: None }
+    }
+
     /// The source in this gate. For want of memory it comes back as it was. With a gate it takes room for 8,192 bytes here,
     /// and later none.
     pub fn new(
@@ -45,7 +53,7 @@ impl<B: ByteSource> GatedSource<B> {
         ensures err { IfErr result (λ e. e.0 ≡ inner) }
     {
         let Some(gate) = gate else {
-            return Ok(GatedSource { inner, front: None });
+            return Ok(GatedSource::plain(inner));
         };
         match Front::new(alloc, gate) {
             Ok(front) => Ok(GatedSource {

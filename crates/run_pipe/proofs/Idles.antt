@@ -1,6 +1,6 @@
 -- Rows of quiet answers behind a hold.
 use Rattle.std.proofs.Common.{◌≡◌, ◌≤◌, ◌<◌, ℕ, [], ◌∷◌, ◌++◌, Bool, true, false, if◌then◌else◌, refl, sym, ap, ◌∙◌, subst, Some, None, Option}
-use Rattle.std.specs.Prelude.{◌||◌, ◌&&◌, not, nat_le, find, option_map, IsSome}
+use Rattle.std.specs.Prelude.{◌||◌, ◌&&◌, not, nat_le, find, option_map}
 use Rattle.std.proofs.lemmas.Bool.{leb-false, le-leb}
 use Rattle.pipe_types.specs.declared.step.DrainCause.TheVariants.{Sources, Limit, Idle}
 use Rattle.pipe_types.specs.declared.step.Step.{Step}
@@ -13,7 +13,7 @@ use Rattle.pipe_model.specs.Begins.{BeginsWith}
 use Rattle.pipe_model.specs.Content.{has_crash}
 use Rattle.pipe_model.specs.History.{History}
 use Rattle.pipe_model.specs.Legal.{allows, passes, owed, may_come, may_dispatch, is_legal, is_late, is_dispatch_of, is_crash_of, happened, is_drain, is_halt, needs_restart, no_post_out, may_restart, quiet_row}
-use Rattle.pipe_model.specs.Moves.{Move, Halted, Drained, StepMove, JobsOut, Pause, or_else, if_so, when, is_drained, jobs_out, first_move, move_or_pause, move}
+use Rattle.pipe_model.specs.Moves.{Move, Halted, Drained, StepMove, JobsOut, or_else, if_so, when, is_drained, jobs_out, first_move, move_or_pause, move}
 use Rattle.pipe_laws.proofs.Allowed.{legal_before, legal_step}
 use Rattle.pipe_laws.proofs.Tests.{and_right, both}
 use Rattle.move_laws.proofs.Laws.{pause_law}

@@ -10,6 +10,7 @@ mod Homing
 mod Going
 mod Starts
 mod Outcomes
-mod Shown
+mod CutShort
+mod Serving
 pub use Rattle.stage_holds.proofs.Kept
 pub use Rattle.stage_holds.proofs.Obeying

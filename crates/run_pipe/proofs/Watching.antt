@@ -6,11 +6,20 @@ use Rattle.pipe_types.specs.declared.topology.Topology.{Topology}
 use Rattle.pipe_model.specs.Begins.{BeginsWith}
 use Rattle.pipe_model.specs.History.{History}
 use Rattle.pipeline_turn.proofs.Journals.{begins_itself}
+use Rattle.pipe_journal.specs.Watched.{is_failure}
+use Rattle.pipe_journal.specs.declared.watch.WatchEnd.{WatchEnd}
+use Rattle.pipe_journal.specs.declared.watch.WatchEnd.TheVariants.{Done, Failed, OutOfMemory}
 use Rattle.stage_job.proofs.CallCounts.{rose_after, rose_before}
 use Rattle.run_pipe.specs.Watches.{WatchSeen, KeepsWatch, HasSeen}
 
 not_failed : {A : Type 0} (b : Bool) → IsTrue b → b ≡ false → A
 not_failed b t f = let x : true ≡ false = sym t ∙ f in cc
+
+-- it has failed where that is its answer
+pub failed_by : (end : WatchEnd) → is_failure end ≡ true → end ≡ Failed
+failed_by Done e = cc
+failed_by Failed e = refl
+failed_by OutOfMemory e = cc
 
 pub watch_itself : (w : WatchSeen) → KeepsWatch w w
 watch_itself w = record { begun = refl; faulty = λ t f. not_failed w.failed t f; faults_stay = omega arith }

@@ -10,6 +10,7 @@ pub mod Measure
 pub mod Jobs
 pub mod Rounds
 pub mod Rounded
+pub mod Serves
 pub mod Runs
 pub use Rattle.stage_holds.specs.Clocks
 pub use Rattle.stage_holds.specs.Keeping

@@ -10,10 +10,11 @@ mod alone;
 mod ends;
 mod pipe;
 mod rounds;
-mod showing;
+mod shown;
 mod workers;
 
 pub use alone::{run_here, run_to_end};
 pub use ends::RunEnd;
 pub use pipe::{Pipe, PipeParts};
+pub use shown::Shown;
 pub use workers::run_workers;

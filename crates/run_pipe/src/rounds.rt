@@ -4,22 +4,22 @@ ghost use Rattle.std.specs.Prelude.{◌≡◌, ◌≢◌, true, Some, IfSome, Is
 ghost use Rattle.pipe_types.specs.declared.numbers.Post.{Post as PostSeen};
 ghost use Rattle.pipe_model.specs.{Begins.{BeginsWith}, Posts.{is_out}, History.{History}};
 ghost use Rattle.pipeline_turn.specs.Jobs.{IsUndone, IsUnanswered, IsOwnJob, AreAway};
-ghost use Rattle.run_pipe.specs.{Jobs.{IsLoadOf, IsHomeOf, IsBrought}, Rounded.{Rounded, IsRecorded}, Rounds.{round_of, end_of, round_shown, end_shown, cut_short}, Seen.{PipeSeen, PipeState, state_of, away_of}};
+ghost use Rattle.run_pipe.specs.{Jobs.{IsLoadOf, IsHomeOf, IsBrought}, Rounded.{Rounded, IsRecorded}, Rounds.{round_of, end_of, round_shown, end_shown, cut_short}, Serves.{Serves}, Seen.{PipeSeen, PipeState, state_of, away_of}};
 ghost use Rattle.run_pipe.specs.Stems.{Stems};
 ghost use Rattle.stage_workers.specs.Rounds.{IfJob, job_post, brought_post};
 
 use crate::ends::RunEnd;
 use crate::pipe::Pipe;
-use crate::showing::show;
+use crate::shown::{Shown, show};
 use pipe_edges::{ByteSource, Clock};
-use pipe_journal::Watch;
 use pipe_types::numbers::Post;
+use pipe_types::topology::{Kind, Role};
 use stage_bodies::Works;
 use stage_holds::{Home, Load, Next, come_home, hold};
 use stage_workers::{Round, Shift};
 use std::alloc::{AllocError, Global};
 
-impl<B: Works, S: ByteSource, C: Clock, W: Watch> Shift for Pipe<B, S, C, W> {
+impl<B: Works, S: ByteSource, C: Clock, W: Shown> Shift for Pipe<B, S, C, W> {
     type Load = Load<B>;
 
     type Home = Home<B>;
@@ -40,7 +40,6 @@ impl<B: Works, S: ByteSource, C: Clock, W: Watch> Shift for Pipe<B, S, C, W> {
 
     fn round(&mut self, brought: Option<Home<B>>) -> Round<Load<B>>
         requires home { (origin : PipeSeen) × (seen : History) × Stems (state_of origin) (state_of self.old) × IfSome brought (λ home. IsHomeOf B.look (state_of origin) seen home × IsUndone self.old.steps seen home.post) }
-        ensures rounded { Rounded B.look brought result (state_of self.old) (state_of self.new) }
         ensures stems { (origin : PipeSeen) → (seen : History) → Stems (state_of origin) (state_of self.old) → IfSome brought (λ home. IsHomeOf B.look (state_of origin) seen home × IsUndone self.old.steps seen home.post) → Stems (state_of origin) (state_of self.new) }
         ensures load { (origin : PipeSeen) → (seen : History) → Stems (state_of origin) (state_of self.old) → IfSome brought (λ home. IsHomeOf B.look (state_of origin) seen home × IsUndone self.old.steps seen home.post)
             → IfJob result (IsLoadOf B.look (state_of origin) self.new.steps) }
@@ -50,7 +49,7 @@ impl<B: Works, S: ByteSource, C: Clock, W: Watch> Shift for Pipe<B, S, C, W> {
         ensures away { AreAway (brought_post (λ home. home.post) brought) (job_post (λ load. load.job.post) result) (away_of (state_of self.old)) (away_of (state_of self.new)) }
         ensures recorded { IfSome brought (λ home. IsRecorded (state_of self.old) (state_of self.new) home) }
     {
-        self.hold(brought)
+        self.serve(brought)
     }
 
     fn is_silent(&self) -> bool {
@@ -62,7 +61,48 @@ impl<B: Works, S: ByteSource, C: Clock, W: Watch> Shift for Pipe<B, S, C, W> {
     }
 }
 
-impl<B: Works, S: ByteSource, C: Clock, W: Watch> Pipe<B, S, C, W> {
+/// How many jobs a worker does at most while it has the pipe.
+const QUICK_JOBS: u32 = 32;
+
+/// How often rules are applied at most in a job that is quick.
+const QUICK_RULES: usize = 128;
+
+impl<B: Works, S: ByteSource, C: Clock, W: Shown> Pipe<B, S, C, W> {
+    /// Holds the pipe. A job that is quick is done at once, and the pipe held again with what comes of it: handing the pipe to
+    /// another worker would take longer. So many at most, since the others wait.
+    fn serve(&mut self, brought: Option<Home<B>>) -> Round<Load<B>>
+        requires home { (opened : PipeState) × (seen : History) × Stems opened (state_of self.old) × IsBrought B.look opened seen self.old.steps brought }
+        ensures serves { Serves B.look brought result (state_of self.old) (state_of self.new) }
+    {
+        let alloc = self.core.alloc;
+        let mut round = self.hold(brought);
+        for _ in 0..QUICK_JOBS {
+            match round {
+                Round::Job(load) => {
+                    if !self.is_quick(load.post()) {
+                        return Round::Job(load);
+                    }
+                    round = self.hold(Some(load.work(alloc)));
+                }
+                other => return other,
+            }
+        }
+        round
+    }
+
+    // Whether a job of the post is soon done, and waits for nothing: a few messages go through a few rules, and no more.
+    fn is_quick(&self, post: Post) -> bool {
+        match self.core.topology().stages.find(post.stage) {
+            Some(spec) => {
+                spec.role == Role::Processor
+                    && spec.kind != Kind::Own
+                    && (spec.max as usize).saturating_mul(spec.rules.as_slice().len() + 1)
+                        <= QUICK_RULES
+            }
+            None => false,
+        }
+    }
+
     /// All that a worker does while it has the pipe: what it brings comes home; the pipeline advances, unless it has ended; then the
     /// next job begins, or time passes, or it is told why neither is so; and the watch is shown the journal. Where memory is wanting for
     /// that, the run ends; a job that was begun is done all the same, and comes home to a pipe that has ended.

@@ -1,4 +1,5 @@
 pub mod Seen
+pub mod Several
 pub mod Moments
 pub mod Reads
 pub mod Told

@@ -8,11 +8,13 @@
 mod feed;
 mod houses;
 mod job;
+mod several;
 mod table;
 mod works;
 
 pub use feed::{Feed, FeedSources};
 pub use houses::Houses;
 pub use job::{Answer, Job, Outcome, Work};
+pub use several::has_several_sources;
 pub use table::{PLACES, place_of, put_back, take_out};
 pub use works::Works;

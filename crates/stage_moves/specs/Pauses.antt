@@ -6,6 +6,7 @@ use Rattle.pipe_types.specs.declared.topology.Rate.{Rate}
 use Rattle.pipe_types.specs.declared.topology.StageSpec.{StageSpec}
 use Rattle.pipe_types.specs.declared.topology.Topology.{Topology}
 use Rattle.pipe_model.specs.History.{History}
+use Rattle.stage_bodies.specs.Several.{has_several_sources}
 use Rattle.work_laws.specs.Left.{work_left}
 
 -- a pipeline may pause, which it does not right after a tick
@@ -22,8 +23,8 @@ abbrev pub least_time : ℕ → List StageSpec → ℕ
 least_time time [] = time
 least_time time (spec ∷ specs) = least_time (if is_batcher spec.role then min time spec.batch_timeout else time) specs
 
--- how long a pause is, in milliseconds: with a rate the 32nd part of the least of an interval and the time limits of batches, but
--- 1 at least and 1,000 at most
+-- how long a pause is, in milliseconds: with a rate the 32nd part of the least of an interval and the time limits of batches; with
+-- several sources a second, or the fourth part of the least of those time limits; but 1 at least and 1,000 at most
 abbrev pub pause_of : Option Rate → List StageSpec → ℕ
-pause_of None specs = 1
+pause_of None specs = if has_several_sources specs then min (max (least_time 4000 specs / 4) 1) 1000 else 1
 pause_of (Some rate) specs = min (max (least_time rate.interval specs / 32) 1) 1000

@@ -1,6 +1,6 @@
 //! The time of a run.
 
-ghost use Rattle.std.specs.Prelude.{◌≡◌, false};
+ghost use Rattle.std.specs.Prelude.{◌≡◌, false, None};
 ghost use Rattle.pipe_types.specs.Counts.{Rose};
 ghost use Rattle.pipe_model.specs.Legal.{happened, is_halt};
 ghost use Rattle.core_state.specs.Stands.{Stands};
@@ -10,6 +10,7 @@ use core_calls::asks::tick;
 use core_state::Core;
 use pipe_edges::Clock;
 use pipe_types::topology::{Role, StageSpec, Topology};
+use stage_bodies::has_several_sources;
 use std::alloc::AllocError;
 
 /// How long a pause is at least, in milliseconds, and at most.
@@ -19,6 +20,9 @@ const MOST_MS: u64 = 1_000;
 
 /// How many pauses an interval of a rate has, where it is not shorter or longer than these.
 const PAUSES: u64 = 32;
+
+/// How many pauses the time limit of a batcher has, where there are several sources.
+const IDLE_PAUSES: u64 = 4;
 
 /// Reads the clock, and appends a tick where the reading is past the last one.
 pub(crate) fn read_clock<C: Clock>(core: &mut Core, clock: &mut C) -> Result<(), AllocError>
@@ -50,14 +54,27 @@ fn shortest(time: u64, stages: &[StageSpec]) -> u64
     least
 }
 
-/// How long a pause is, in milliseconds. Where no source says anything each waits in its own read, and a pause is short. A gate whose
-/// share is used up waits in none: with a rate a pause is the 32nd part of an interval, so that the wait for the next one adds few
-/// ticks, and of each batcher's time limit, so that no batch closes late by more.
+/// How long a pause is where there is no rate. A source that is alone waits in its own read, and a pause is short. One of several
+/// does not wait, so that it holds no other up: the pause waits for all of them, as far as the clock hears of them.
+fn idle_ms(stages: &[StageSpec]) -> u64
+    ensures { result ≡ pause_of None stages.now }
+{
+    if has_several_sources(stages) {
+        let least = shortest(MOST_MS * IDLE_PAUSES, stages);
+        (least / IDLE_PAUSES).clamp(LEAST_MS, MOST_MS)
+    } else {
+        LEAST_MS
+    }
+}
+
+/// How long a pause is, in milliseconds. A gate whose share is used up does not wait: with a rate a pause is the 32nd part of an
+/// interval, so that the wait for the next one adds few ticks, and of each batcher's time limit, so that no batch closes late by
+/// more.
 fn pause_ms(topology: &Topology) -> u64
     ensures { result ≡ pause_of topology.now.rate topology.now.stages }
 {
     let Some(rate) = &topology.rate else {
-        return LEAST_MS;
+        return idle_ms(topology.stages.as_slice());
     };
     let least = shortest(rate.interval, topology.stages.as_slice());
     (least / PAUSES).clamp(LEAST_MS, MOST_MS)

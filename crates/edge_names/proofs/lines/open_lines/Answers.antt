@@ -1,4 +1,9 @@
-use Rattle.edge_names.proofs.Cuts.{cut_uncalled, cut_empty, cut_returned}
+use Rattle.std.proofs.Common.{[], ◌∷◌, sym, ◌∙◌, subst}
+use Rattle.pipe_edges.specs.declared.edges.EdgeKind.TheVariants.{Source}
+use Rattle.stage_bodies.specs.Seen.{source_seen, sink_seen}
+use Rattle.edge_names.specs.Seen.{edges_seen}
+use Rattle.edge_names.specs.Opened.{IsOneFailed}
+use Rattle.edge_names.proofs.Cuts.{cut_uncalled, cut_empty, cut_returned, failed_call}
 use Rattle.edge_names.proofs.lines.open_lines.Goals as goal
 
 pub returns-in_default-clause-cut_off : goal.returns-in_default-clause-cut_off
@@ -10,3 +15,13 @@ returns-in-Ok-open_control_source-clause-cut_off g c =
 
 pub returns-clause-cut_off : goal.returns-clause-cut_off
 returns-clause-cut_off g c = cut_empty _ _ _ _ _ (rw c.in-Err-OutOfMemory.field-0-is at c.in-Err-OutOfMemory.ensures.opens)
+
+pub returns-in-Err-Failed-clause-failed : goal.returns-in-Err-Failed-clause-failed
+returns-in-Err-Failed-clause-failed g c =
+    let e = g.E.Edges in
+    let s = g.E.Source.ByteSource in
+    let k = g.E.Sink.ByteSink in
+    let seen = edges_seen e.told e.named e.asked e.faults e.sources_back e.sinks_back (source_seen s) (sink_seen k.told k.held k.faults) in
+    let old = seen c.args.edges.now in
+    let new = seen c.open_control_source.new.edges in
+    subst (λ n. IsOneFailed ((Source, c.args.name.now) ∷ []) n old new) (sym (c.in-Ok.ensures ∙ c.as_str.ensures)) (failed_call Source c.args.name.now old new (rw c.in-Err-Failed.field-0-is at c.in-Err-Failed.ensures.opens))

@@ -53,7 +53,7 @@ returns-in-Ok-give_back-clause-in_part g c =
     let failed = seen c.open_stages.new.edges in
     let new = seen c.give_back.new.edges in
     let all = all_parts feeds topology control opened failed new c.in-Ok-give_back.ensures.back in
-    short_by feeds c.in-Err-open_stages.unopened topology control (suc (length topology.stages)) old mid failed new start opened c.in-Ok.ensures.opened c.in-Err-open_stages.ensures.cut_off all
+    short_by feeds c.in-Err-open_stages.unopened topology control (suc (length topology.stages)) 0 old mid failed new start opened c.in-Ok.ensures.opened c.in-Err-open_stages.ensures.cut_off all
 
 pub returns-in-Err-give_back-clause-in_part : goal.returns-in-Err-give_back-clause-in_part
 returns-in-Err-give_back-clause-in_part g c =
@@ -71,7 +71,7 @@ returns-in-Err-give_back-clause-in_part g c =
     let failed = seen c.open_stages.new.edges in
     let new = seen c.give_back.new.edges in
     let part = c.in-Err-give_back.ensures.in_part in
-    short_any feeds c.in-Err-open_stages.unopened topology control part.parts old mid failed new start opened c.in-Ok.ensures.opened c.in-Err-open_stages.ensures.failed c.in-Err-open_stages.ensures.cut_off part.some_left part.back
+    short_any feeds c.in-Err-open_stages.unopened topology control part.parts part.more old mid failed new start opened c.in-Ok.ensures.opened c.in-Err-open_stages.ensures.failed c.in-Err-open_stages.ensures.cut_off part.some_left part.back
 
 pub returns-in-Err-clause-undone : goal.returns-in-Err-clause-undone
 returns-in-Err-clause-undone g c =

@@ -9,8 +9,8 @@ use Rattle.edge_names.specs.Supplies.{fed, supplied_by}
 use Rattle.edge_names.proofs.Supplying.{some_fed}
 use Rattle.edge_names.proofs.opening.open_stage.Goals as goal
 
-pub supply_source_into-requires-clause-home : goal.supply_source_into-requires-clause-home
-supply_source_into-requires-clause-home g c κs within = λ some.
+pub supply_into-requires-clause-home : goal.supply_into-requires-clause-home
+supply_into-requires-clause-home g c κs within = λ some.
     let spec = c.args.spec.now in
     let feed = g.S.Supply.feeds c.args.supply.now spec in
     let pace = pace_of_stage c.args.topology.now spec in
@@ -24,12 +24,12 @@ returns-in-Producer-clause-opens g c =
     let seen = edges_seen e.told e.named e.asked e.faults e.sources_back e.sinks_back (source_seen s) (sink_seen k.told k.held k.faults) in
     let look = g.B.Works.look in
     let old = seen c.args.edges.now in
-    let new = seen c.supply_source_into.new.edges in
+    let new = seen c.supply_into.new.edges in
     let start = body_at look c.args.bodies.now.items in
-    let now = body_at look c.supply_source_into.new.bodies.items in
+    let now = body_at look c.supply_into.new.bodies.items in
     let topology = c.args.topology.now in
     let spec = c.args.spec.now in
     let feed = g.S.Supply.feeds c.args.supply.now spec in
     let same : option_map pace_of c.gate_at-gate.result ≡ pace_of_stage topology spec = c.gate_at-gate.ensures.pace ∙ ap (λ n. pace_by topology.rate n spec.index) c.requires.counted in
-    let opens = subst (λ p. OpensOne (fed p feed) c.args.at c.supply_source_into.result old new start now) same c.supply_source_into.ensures.opens in
-    subst (λ r. OpensOne (supplied_by r (pace_of_stage topology spec) feed spec.edge) c.args.at c.supply_source_into.result old new start now) (sym c.in-Producer.is) opens
+    let opens = subst (λ p. OpensOne (fed p feed) c.args.at c.supply_into.result old new start now) same c.supply_into.ensures.opens in
+    subst (λ r. OpensOne (supplied_by r (pace_of_stage topology spec) feed spec.edge) c.args.at c.supply_into.result old new start now) (sym c.in-Producer.is) opens

@@ -15,6 +15,7 @@ use Rattle.pipe_run.specs.Steps.{WentOn}
 use Rattle.pipe_run.proofs.Calls.{failed_by, unasked, wanted}
 use Rattle.pipe_run.proofs.Controls.{unread}
 use Rattle.pipe_run.proofs.Rates.{rate_kept}
+use Rattle.pipe_run.proofs.Ungated.{ungated}
 use Rattle.pipe_run.proofs.Wholes.{run_leaves, run_of}
 use Rattle.pipe_run.proofs.run.run_bodies.Goals as goal
 
@@ -76,7 +77,7 @@ returns-in-Ok-open_or_give_back-clause-ran g c =
     let lines = subst (λ (t : Topology). HasSource old (control_call t.control) None fresh) same c.in-Ok-open_or_give_back.ensures.control in
     let legal = subst (λ (t : Topology). is_legal t run.core.journal.steps ≡ true) (c.run_opened-run.ensures.topology ∙ own) c.run_opened-run.ensures.stands.holds.legal in
     let went = subst (λ (t : Topology). WentOn (at_paces t origin) (is_ok run.end) t run.core.journal.steps opened final fresh mid new (time c.args.clock) (time c.run_opened-run.result.clock)) own c.run_opened-run.ensures.went in
-    run_of feeds (is_ok run.end) topology run.core.journal.steps table opened final fresh old mid new (time c.args.clock) (time c.run_opened-run.result.clock) c.requires.sound legal c.requires.handed opens lines asks went
+    run_of feeds (is_ok run.end) topology run.core.journal.steps table opened final fresh old mid new (time c.args.clock) (time c.run_opened-run.result.clock) c.requires.sound (ungated topology origin c.requires.unmerged) legal c.requires.handed opens lines asks went
 
 pub returns-in-Ok-open_or_give_back-clause-rate : goal.returns-in-Ok-open_or_give_back-clause-rate
 returns-in-Ok-open_or_give_back-clause-rate g c =

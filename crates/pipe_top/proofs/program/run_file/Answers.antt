@@ -1,11 +1,16 @@
-use Rattle.std.proofs.Common.{refl}
+use Rattle.std.proofs.Common.{ap}
 use Rattle.box_stock.proofs.Filled.{names_feed}
-use Rattle.pipe_top.specs.Cases.{Named}
+use Rattle.edge_names.specs.Supplies.{by_name}
+use Rattle.pipe_top.specs.Cases.{Filed}
+use Rattle.pipe_top.proofs.Runnables.{filed_unmerged}
 use Rattle.pipe_top.proofs.Reading.{run_came, run_unread}
 use Rattle.pipe_top.proofs.program.run_file.Goals as goal
 
 pub run_or_refuse-requires-clause-fed : goal.run_or_refuse-requires-clause-fed
-run_or_refuse-requires-clause-fed g c κs lives = names_feed c.in-Ok.topology c.in-Ok.ensures.reads.1
+run_or_refuse-requires-clause-fed g c κs lives = names_feed _ c.in-Ok.topology c.in-Ok.ensures.reads.1
+
+pub run_or_refuse-requires-clause-unmerged : goal.run_or_refuse-requires-clause-unmerged
+run_or_refuse-requires-clause-unmerged g c κs lives = filed_unmerged c.in-Ok.topology _ c.of_file-supply.ensures
 
 pub returns-in-Ok : goal.returns-in-Ok
 returns-in-Ok g c =
@@ -13,7 +18,7 @@ returns-in-Ok g c =
     let w = c.args.words in
     record {
       came = run_came _ _ _ _ w.topology.now w.workers w.acks w.steps c.in-Ok.topology r.result.topology r.result.journal.steps r.result.verdict c.in-Ok.ensures
-          (r.ensures.comes Named (record { is = refl; few = tt }));
+          (r.ensures.comes Filed (record { is = ap by_name c.of_file-supply.ensures; few = tt }));
     }
 
 pub returns-in-Err : goal.returns-in-Err

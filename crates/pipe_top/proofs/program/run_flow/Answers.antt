@@ -1,11 +1,16 @@
-use Rattle.std.proofs.Common.{refl}
+use Rattle.std.proofs.Common.{ap, refl}
 use Rattle.box_stock.proofs.Filled.{names_feed}
+use Rattle.edge_names.specs.Supplies.{by_name}
 use Rattle.pipe_top.specs.Cases.{Named}
+use Rattle.pipe_top.proofs.Runnables.{named_unmerged}
 use Rattle.pipe_top.proofs.Reading.{came_by_flow, came_to_nothing}
 use Rattle.pipe_top.proofs.program.run_flow.Goals as goal
 
 pub run_or_refuse-requires-clause-fed : goal.run_or_refuse-requires-clause-fed
-run_or_refuse-requires-clause-fed g c κs lives = names_feed c.in-Ok.topology c.in-Ok.ensures.sound
+run_or_refuse-requires-clause-fed g c κs lives = names_feed _ c.in-Ok.topology c.in-Ok.ensures.sound
+
+pub run_or_refuse-requires-clause-unmerged : goal.run_or_refuse-requires-clause-unmerged
+run_or_refuse-requires-clause-unmerged g c κs lives = named_unmerged c.in-Ok.topology _ c.as_it_stands-supply.ensures
 
 pub returns : goal.returns
 returns g c =
@@ -13,7 +18,7 @@ returns g c =
     let w = c.args.words in
     record {
       came = came_by_flow _ _ _ w.source.now w.prefix.now c.in-Ok.topology r.result.topology r.result.journal.steps r.result.verdict c.in-Ok.ensures.value
-          (r.ensures.comes Named (record { is = refl; few = tt }));
+          (r.ensures.comes Named (record { is = ap by_name c.as_it_stands-supply.ensures; few = tt }));
     }
 
 pub returns-in_default : goal.returns-in_default

@@ -6,6 +6,9 @@ use Rattle.pipe_top.proofs.program.run_generated.Goals as goal
 pub run_or_refuse-requires-clause-fed : goal.run_or_refuse-requires-clause-fed
 run_or_refuse-requires-clause-fed g c κs lives s spec found is = refl
 
+pub run_or_refuse-requires-clause-unmerged : goal.run_or_refuse-requires-clause-unmerged
+run_or_refuse-requires-clause-unmerged g c κs lives some spec = refl
+
 pub returns-in-Ok : goal.returns-in-Ok
 returns-in-Ok g c =
     let r = c.run_or_refuse in

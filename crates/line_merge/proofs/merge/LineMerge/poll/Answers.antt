@@ -1,7 +1,8 @@
 use Rattle.std.proofs.Common.{[]}
+use Rattle.std.specs.Prelude.{slice_get}
 use Rattle.line_merge.specs.Items.{lines_from, given_of}
 use Rattle.line_merge.specs.Streams.{stream_at, merge_end_of}
-use Rattle.line_merge.proofs.Merging.{merged_on, end_known, end_none, no_pace, sum_stays, rise_of}
+use Rattle.line_merge.proofs.Merging.{merged_on, found_placed, none_placed, end_known, end_none, no_pace, sum_stays, rise_of}
 use Rattle.line_merge.proofs.merge.LineMerge.poll.Goals as goal
 
 pub returns-in-Ok-clause-merged : goal.returns-in-Ok-clause-merged
@@ -9,7 +10,8 @@ returns-in-Ok-clause-merged g c opened given before =
     let source = g.B.ByteSource in
     let e = c.in-Ok.ensures in
     merged_on source opened c.args.self.now.streams.items c.next_round.new.streams.items (merge_end_of c.args.self.now) c.end-self.result given (given_of c.in-Ok.item) e.gives
-    (rw c.end-self.ensures (end_known source c.place_after-first.result (stream_at c.args.self.now) c.next_round.new.streams.items c.in-Ok.item e.cause)) before
+    (rw c.end-self.ensures (end_known source c.place_after-first.result (stream_at c.args.self.now) c.next_round.new.streams.items c.in-Ok.item e.cause))
+    (found_placed source c.place_after-first.result opened c.args.self.now.streams.items (merge_end_of c.args.self.now) given (slice_get c.next_round.new.streams.items) c.in-Ok.item before e.cause) before
 
 pub returns-in-Ok-clause-unpaced : goal.returns-in-Ok-clause-unpaced
 returns-in-Ok-clause-unpaced g c =
@@ -26,7 +28,7 @@ returns-in-Ok-clause-rises g c =
 pub returns-in-Err-next_round-clause-merged : goal.returns-in-Err-next_round-clause-merged
 returns-in-Err-next_round-clause-merged g c opened given before =
     let known = merge_end_of c.args.self.now in
-    merged_on g.B.ByteSource opened c.args.self.now.streams.items c.next_round.new.streams.items known known given [] c.in-Err-next_round.ensures.gives (end_none _ known c.in_default.is) before
+    merged_on g.B.ByteSource opened c.args.self.now.streams.items c.next_round.new.streams.items known known given [] c.in-Err-next_round.ensures.gives (end_none _ known c.in_default.is) (none_placed opened) before
 
 pub returns-in-Err-next_round-clause-unpaced : goal.returns-in-Err-next_round-clause-unpaced
 returns-in-Err-next_round-clause-unpaced g c =

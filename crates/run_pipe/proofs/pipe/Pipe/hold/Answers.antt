@@ -2,12 +2,11 @@ use Rattle.std.proofs.Common.{◌∙◌, refl, sym, ap, subst}
 use Rattle.std.specs.Prelude.{option_map, IsSome}
 use Rattle.stage_bodies.specs.Seen.{line_seen}
 use Rattle.stage_holds.specs.Clocks.{clock_seen}
-use Rattle.run_pipe.specs.Watches.{watch_seen}
 use Rattle.run_pipe.specs.Seen.{PipeState, state_of}
 use Rattle.run_pipe.proofs.Views.{fields_of, state_is}
 use Rattle.run_pipe.proofs.Homing.{home_first, brings_at, rounded_at, going_by}
 use Rattle.run_pipe.proofs.Going.{held_by, holds_round, holds_whole}
-use Rattle.run_pipe.proofs.Shown.{shown_round, shown_whole, seen_by, part_of}
+use Rattle.run_pipe.proofs.CutShort.{shown_round, shown_whole, seen_by, part_of}
 use Rattle.run_pipe.specs.Rounds.{round_of, end_of}
 use Rattle.pipe_types.specs.declared.topology.Topology.{Topology}
 use Rattle.run_pipe.specs.Ends.{HasMemory}
@@ -19,7 +18,7 @@ take_home-requires-clause-ended g c =
     let look = g.B.Works.look in
     let line = line_seen s in
     let time = clock_seen g.C.Clock.latest g.C.Clock.readings g.C.Clock.pauses in
-    let view = watch_seen g.W.Watch.begun g.W.Watch.failed g.W.Watch.faults in
+    let view = g.W.Shown.sight in
     let i = c.self.inside in
     let same = sym (ap state_of c.self.view_is) ∙ state_is look i.core.topology i.core.journal.steps i.bodies.items (option_map line i.control) (time i.clock) (view i.watch) i.end in
     subst (λ (p : PipeState). IsSome p.end) (sym same) (sym c.is_some.ensures ∙ c.if-is_some.true)
@@ -30,7 +29,7 @@ hold-came-requires-clause-brought g c =
     let look = g.B.Works.look in
     let line = line_seen s in
     let time = clock_seen g.C.Clock.latest g.C.Clock.readings g.C.Clock.pauses in
-    let view = watch_seen g.W.Watch.begun g.W.Watch.failed g.W.Watch.faults in
+    let view = g.W.Shown.sight in
     let i = c.self.inside in
     let old = fields_of look i.core.topology i.core.journal.steps i.bodies.items (option_map line i.control) (time i.clock) (view i.watch) i.end in
     let same = sym (ap state_of c.self.view_is) ∙ state_is look i.core.topology i.core.journal.steps i.bodies.items (option_map line i.control) (time i.clock) (view i.watch) i.end in
@@ -39,16 +38,16 @@ hold-came-requires-clause-brought g c =
     let b = brings_at look c.args.brought (state_of c.args.self.now) old same w.stands.holds.sound w.stands.holds.legal h.0 h.1 h.2 h.3 in
     home_first look c.args.brought old b
 
-pub show-shown-requires-clause-fits : goal.show-shown-requires-clause-fits
-show-shown-requires-clause-fits g c =
+pub show-shown-requires-clause-suits : goal.show-shown-requires-clause-suits
+show-shown-requires-clause-suits g c =
     let i = c.self.inside in
-    subst (λ (t : Topology). g.W.Watch.fits i.watch t) (sym c.hold-came.ensures.holds.topology) c.self.invariant.watched.fit
+    subst (λ (t : Topology). g.W.Shown.suits i.watch t) (sym c.hold-came.ensures.holds.topology) c.self.invariant.watched.fit
 
 pub show-shown-requires-clause-part : goal.show-shown-requires-clause-part
 show-shown-requires-clause-part g c =
     let i = c.self.inside in
-    let d = g.W.Watch in
-    part_of (d.fits i.watch) (d.stands i.watch) (d.failed i.watch) (HasMemory i.end) i.core.topology i.core.journal.steps c.hold-came.new.core.journal.steps c.self.invariant.watched c.hold-came.ensures.holds.adds.begins
+    let d = g.W.Shown in
+    part_of (d.suits i.watch) (d.knows i.watch) (d.sight i.watch).failed (HasMemory i.end) i.core.topology i.core.journal.steps c.hold-came.new.core.journal.steps c.self.invariant.watched c.hold-came.ensures.holds.adds.begins
 
 pub invariant_of-self : goal.invariant_of-self
 invariant_of-self g c =
@@ -56,7 +55,7 @@ invariant_of-self g c =
     let look = g.B.Works.look in
     let line = line_seen s in
     let time = clock_seen g.C.Clock.latest g.C.Clock.readings g.C.Clock.pauses in
-    let view = watch_seen g.W.Watch.begun g.W.Watch.failed g.W.Watch.faults in
+    let view = g.W.Shown.sight in
     let i = c.self.inside in
     let old = fields_of look i.core.topology i.core.journal.steps i.bodies.items (option_map line i.control) (time i.clock) (view i.watch) i.end in
     let same = sym (ap state_of c.self.view_is) ∙ state_is look i.core.topology i.core.journal.steps i.bodies.items (option_map line i.control) (time i.clock) (view i.watch) i.end in
@@ -72,12 +71,12 @@ invariant_of-self g c =
     let mid = fields_of look n.core.topology steps n.bodies.items (option_map line n.control) (time n.clock) (view seen) (end_of came) in
     let held = held_by look c.args.brought came old mid w.stands.holds.sound e.stands.holds.legal e.stands.unowed e.holds e.slept in
     let going = going_by i.end (sym c.is_some.ensures ∙ c.if-is_some.false) in
-    let d = g.W.Watch in
+    let d = g.W.Shown in
     record {
       stands = e.stands;
       whole = shown_whole shown mid c.told-round.result.1 c.told-round.ensures.end
           (holds_whole look c.args.brought came old mid b held e.holds.topology e.holds.places going refl c.show-shown.ensures.kept w.whole);
-      watched = seen_by (d.fits seen) (d.stands seen) (d.failed seen) shown (end_of came) c.told-round.result.1 n.core.topology steps c.told-round.ensures.end c.show-shown.ensures.seen;
+      watched = seen_by (d.suits seen) (d.knows seen) (d.sight seen).failed shown (end_of came) c.told-round.result.1 n.core.topology steps c.told-round.ensures.end c.show-shown.ensures.seen;
       known = c.show-shown.ensures.known;
     }
 
@@ -87,7 +86,7 @@ returns g c =
     let look = g.B.Works.look in
     let line = line_seen s in
     let time = clock_seen g.C.Clock.latest g.C.Clock.readings g.C.Clock.pauses in
-    let view = watch_seen g.W.Watch.begun g.W.Watch.failed g.W.Watch.faults in
+    let view = g.W.Shown.sight in
     let i = c.self.inside in
     let old = fields_of look i.core.topology i.core.journal.steps i.bodies.items (option_map line i.control) (time i.clock) (view i.watch) i.end in
     let same = sym (ap state_of c.self.view_is) ∙ state_is look i.core.topology i.core.journal.steps i.bodies.items (option_map line i.control) (time i.clock) (view i.watch) i.end in

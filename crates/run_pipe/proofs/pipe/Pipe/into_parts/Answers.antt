@@ -2,7 +2,6 @@ use Rattle.std.proofs.Common.{◌∙◌, sym, ap, subst}
 use Rattle.std.specs.Prelude.{option_map}
 use Rattle.stage_bodies.specs.Seen.{line_seen}
 use Rattle.stage_holds.specs.Clocks.{clock_seen}
-use Rattle.run_pipe.specs.Watches.{watch_seen}
 use Rattle.run_pipe.specs.Seen.{state_of}
 use Rattle.run_pipe.specs.Whole.{IsWhole}
 use Rattle.run_pipe.proofs.Views.{state_is}
@@ -14,7 +13,7 @@ returns-clause-whole g c =
     let look = g.B.Works.look in
     let line = line_seen s in
     let time = clock_seen g.C.Clock.latest g.C.Clock.readings g.C.Clock.pauses in
-    let view = watch_seen g.W.Watch.begun g.W.Watch.failed g.W.Watch.faults in
+    let view = g.W.Shown.sight in
     let i = c.self.inside in
     let same = sym (ap state_of c.self.view_is) ∙ state_is look i.core.topology i.core.journal.steps i.bodies.items (option_map line i.control) (time i.clock) (view i.watch) i.end in
     subst IsWhole (sym same) c.self.invariant.whole
@@ -25,6 +24,6 @@ returns-clause-parts g c =
     let look = g.B.Works.look in
     let line = line_seen s in
     let time = clock_seen g.C.Clock.latest g.C.Clock.readings g.C.Clock.pauses in
-    let view = watch_seen g.W.Watch.begun g.W.Watch.failed g.W.Watch.faults in
+    let view = g.W.Shown.sight in
     let i = c.self.inside in
     sym (ap state_of c.self.view_is) ∙ state_is look i.core.topology i.core.journal.steps i.bodies.items (option_map line i.control) (time i.clock) (view i.watch) i.end

@@ -4,7 +4,6 @@ use Rattle.pipe_types.specs.declared.topology.Topology.{Topology}
 use Rattle.pipe_model.specs.Legal.{is_legal}
 use Rattle.stage_bodies.specs.Seen.{body_at, line_seen}
 use Rattle.stage_holds.specs.Clocks.{clock_seen}
-use Rattle.run_pipe.specs.Watches.{watch_seen}
 use Rattle.run_pipe.specs.Jobs.{IsBrought}
 use Rattle.run_pipe.specs.Seen.{PipeState, state_of}
 use Rattle.run_pipe.specs.Rounded.{Rounded}
@@ -12,7 +11,7 @@ use Rattle.run_pipe.specs.Whole.{IsWhole}
 use Rattle.stage_workers.specs.declared.shift.Round.TheVariants.{Ended}
 use Rattle.run_pipe.proofs.Views.{fields_of, seen_of, state_is}
 use Rattle.run_pipe.proofs.Homing.{home_first, with_home, one_home, nothing_home, home_whole, no_memory, brings_at, rounded_at}
-use Rattle.run_pipe.proofs.Shown.{seen_where, part_of}
+use Rattle.run_pipe.proofs.CutShort.{seen_where, part_of}
 use Rattle.run_pipe.specs.Ends.{HasMemory}
 use Rattle.run_pipe.proofs.pipe.Pipe.take_home.Goals as goal
 
@@ -22,7 +21,7 @@ come_home-requires-clause-back g c =
     let look = g.B.Works.look in
     let line = line_seen s in
     let time = clock_seen g.C.Clock.latest g.C.Clock.readings g.C.Clock.pauses in
-    let view = watch_seen g.W.Watch.begun g.W.Watch.failed g.W.Watch.faults in
+    let view = g.W.Shown.sight in
     let i = c.self.inside in
     let old = fields_of look i.core.topology i.core.journal.steps i.bodies.items (option_map line i.control) (time i.clock) (view i.watch) i.end in
     let same = sym (ap state_of c.self.view_is) ∙ state_is look i.core.topology i.core.journal.steps i.bodies.items (option_map line i.control) (time i.clock) (view i.watch) i.end in
@@ -32,16 +31,16 @@ come_home-requires-clause-back g c =
     let b = brings_at look (Some home) (state_of c.args.self.now) old same w.stands.holds.sound w.stands.holds.legal h.0 h.1 h.2 (subst (IsBrought look h.0 h.1 c.args.self.now.steps) c.in-Some.is h.3) in
     home_first look (Some home) old b
 
-pub show-requires-clause-fits : goal.show-requires-clause-fits
-show-requires-clause-fits g c =
+pub show-requires-clause-suits : goal.show-requires-clause-suits
+show-requires-clause-suits g c =
     let i = c.self.inside in
-    subst (λ (t : Topology). g.W.Watch.fits i.watch t) (sym c.come_home.ensures.topology) c.self.invariant.watched.fit
+    subst (λ (t : Topology). g.W.Shown.suits i.watch t) (sym c.come_home.ensures.topology) c.self.invariant.watched.fit
 
 pub show-requires-clause-part : goal.show-requires-clause-part
 show-requires-clause-part g c =
     let i = c.self.inside in
-    let d = g.W.Watch in
-    part_of (d.fits i.watch) (d.stands i.watch) (d.failed i.watch) (HasMemory i.end) i.core.topology i.core.journal.steps c.come_home.new.core.journal.steps c.self.invariant.watched c.come_home.ensures.comes.adds.begins
+    let d = g.W.Shown in
+    part_of (d.suits i.watch) (d.knows i.watch) (d.sight i.watch).failed (HasMemory i.end) i.core.topology i.core.journal.steps c.come_home.new.core.journal.steps c.self.invariant.watched c.come_home.ensures.comes.adds.begins
 
 pub invariant_of-self : goal.invariant_of-self
 invariant_of-self g c =
@@ -49,7 +48,7 @@ invariant_of-self g c =
     let look = g.B.Works.look in
     let line = line_seen s in
     let time = clock_seen g.C.Clock.latest g.C.Clock.readings g.C.Clock.pauses in
-    let view = watch_seen g.W.Watch.begun g.W.Watch.failed g.W.Watch.faults in
+    let view = g.W.Shown.sight in
     let i = c.self.inside in
     let old = fields_of look i.core.topology i.core.journal.steps i.bodies.items (option_map line i.control) (time i.clock) (view i.watch) i.end in
     let same = sym (ap state_of c.self.view_is) ∙ state_is look i.core.topology i.core.journal.steps i.bodies.items (option_map line i.control) (time i.clock) (view i.watch) i.end in
@@ -64,11 +63,11 @@ invariant_of-self g c =
     let seen = c.show.new.watch in
     let ended = subst (λ (p : PipeState). IsSome p.end) same c.requires.ended in
     let legal = subst (λ (t : Topology). is_legal t steps ≡ true) e.topology e.stands.holds.legal in
-    let d = g.W.Watch in
+    let d = g.W.Shown in
     record {
       stands = e.stands;
       whole = home_whole look home old n.core.topology steps (body_at look m) (length m) (view seen) c.come_home.result w.whole b ended e.topology e.len legal e.comes c.show.ensures.kept;
-      watched = seen_where (d.fits seen) (d.stands seen) (d.failed seen) _ (HasMemory i.end) n.core.topology steps
+      watched = seen_where (d.suits seen) (d.knows seen) (d.sight seen).failed _ (HasMemory i.end) n.core.topology steps
           (λ memory. absurd (no_memory look home old n.core.topology steps (body_at look m) (length m) (view seen) c.come_home.result w.whole b ended e.topology e.len legal e.comes c.show.ensures.kept memory)) c.show.ensures.seen;
       known = c.show.ensures.known;
     }
@@ -79,7 +78,7 @@ returns-in-Some g c =
     let look = g.B.Works.look in
     let line = line_seen s in
     let time = clock_seen g.C.Clock.latest g.C.Clock.readings g.C.Clock.pauses in
-    let view = watch_seen g.W.Watch.begun g.W.Watch.failed g.W.Watch.faults in
+    let view = g.W.Shown.sight in
     let i = c.self.inside in
     let old = fields_of look i.core.topology i.core.journal.steps i.bodies.items (option_map line i.control) (time i.clock) (view i.watch) i.end in
     let same = sym (ap state_of c.self.view_is) ∙ state_is look i.core.topology i.core.journal.steps i.bodies.items (option_map line i.control) (time i.clock) (view i.watch) i.end in
@@ -108,7 +107,7 @@ returns-in-None g c =
     let look = g.B.Works.look in
     let line = line_seen s in
     let time = clock_seen g.C.Clock.latest g.C.Clock.readings g.C.Clock.pauses in
-    let view = watch_seen g.W.Watch.begun g.W.Watch.failed g.W.Watch.faults in
+    let view = g.W.Shown.sight in
     let i = c.self.inside in
     let same = sym (ap state_of c.self.view_is) ∙ state_is look i.core.topology i.core.journal.steps i.bodies.items (option_map line i.control) (time i.clock) (view i.watch) i.end in
     let w = c.self.invariant in
