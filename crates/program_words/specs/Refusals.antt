@@ -16,6 +16,10 @@ memory_line = codes "memory" ++ lf
 abbrev pub edge_line : (name : List ℕ) → List ℕ
 edge_line name = codes "edge " ++ name ++ lf
 
+-- feed NAME
+abbrev pub feed_line : (name : List ℕ) → List ℕ
+feed_line name = codes "feed " ++ name ++ lf
+
 abbrev pub kind_word : Kind → List ℕ
 kind_word Steps = codes "steps"
 kind_word Lines = codes "lines"

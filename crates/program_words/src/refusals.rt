@@ -31,6 +31,13 @@ pub fn edge_line(alloc: Global, name: &str) -> Result<Bytes, AllocError>
     bytes_of(format!(in alloc; "edge {name}\n")?)
 }
 
+/// The name of the sink for live acknowledgements, which failed.
+pub fn feed_line(alloc: Global, name: &str) -> Result<Bytes, AllocError>
+    ensures { IfOk result (λ line. line ≡ text.feed_line name.now) }
+{
+    bytes_of(format!(in alloc; "feed {name}\n")?)
+}
+
 /// The kind of callback of which there are fewer boxes than stages need.
 #[tactic(auto, using(std::proofs::lemmas::List::append_assoc))]
 pub fn stock_line(alloc: Global, kind: Kind, need: usize, have: usize) -> Result<Bytes, AllocError>
