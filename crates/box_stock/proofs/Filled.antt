@@ -212,7 +212,7 @@ name_by splits topology spec Producer fields is None e = absurd (let some : is_s
 name_by splits topology spec Processor fields is edge e = cc
 name_by splits topology spec Supervisor fields is edge e = cc
 name_by splits topology spec Batcher fields is edge e = cc
-name_by topology spec BatchProcessor fields is edge e = cc
+name_by splits topology spec BatchProcessor fields is edge e = cc
 
 pub names_feed : (splits : Bool) (topology : Topology) → IsSound topology → FeedsProducers (by_name splits) topology
 names_feed splits topology sound s spec found is = name_by splits topology spec spec.role (sound_fields topology s spec sound found) is spec.edge refl

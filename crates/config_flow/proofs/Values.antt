@@ -9,6 +9,7 @@ use Rattle.config_settings.specs.declared.settings.Settings.{Settings}
 use Rattle.pipe_types.specs.declared.topology.Rule.TheVariants.{Require}
 use Rattle.toml.specs.Data.{table, item, no_items}
 use Rattle.config_rule.specs.RuleText.{at_space, rule_of}
+use Rattle.config_rule.specs.SourceText.{merged_in, may_be_source}
 use Rattle.config_judge.specs.Judge.{faults_in}
 use Rattle.config_build.specs.Build.{topology_in}
 use Rattle.pipe_config.specs.Fit.{IsFit}
@@ -57,17 +58,17 @@ sound_answer source prefix s (Err e) is built = tt
 rule_part : (prefix : List ℕ) → table_faults One Processors (codes "processors") (Some (processors_table prefix)) ≡ []
 rule_part prefix = rw (require_rule prefix)
 
-producer_part : (source : List ℕ) → is_between 1 4096 (length source) ≡ true → each_faults One Producer (codes "producer") 0 (item (table (producer_table source)) no_items) ≡ []
-producer_part source h = rw h
+producer_part : (source : List ℕ) → is_between 1 4096 (length source) ≡ true → may_be_source (merged_in source) ≡ true → each_faults One Producer (codes "producer") 0 (item (table (producer_table source)) no_items) ≡ []
+producer_part source h named = rw (h, named)
 
-table_has_no_fault : (source prefix : List ℕ) → is_between 1 4096 (length source) ≡ true → faults_of One (flow_table source prefix) ≡ []
-table_has_no_fault source prefix h = rw (rule_part prefix, producer_part source h)
+table_has_no_fault : (source prefix : List ℕ) → is_between 1 4096 (length source) ≡ true → may_be_source (merged_in source) ≡ true → faults_of One (flow_table source prefix) ≡ []
+table_has_no_fault source prefix h named = rw (rule_part prefix, producer_part source h named)
 
 judged_flow : (source prefix : List ℕ) → judged (flow_settings source prefix) ≡ Ok (flow_topology_of source prefix)
 judged_flow source prefix = rw (no_fault source prefix, settings_give_flow source prefix)
 
-pub flow_of_file : (source prefix : List ℕ) → 1 ≤ length source → length source ≤ 4096 → topology_of (flow_table source prefix) ≡ Ok (flow_topology_of source prefix)
-flow_of_file source prefix given short =
+pub flow_of_file : (source prefix : List ℕ) → 1 ≤ length source → length source ≤ 4096 → may_be_source (merged_in source) ≡ true → topology_of (flow_table source prefix) ≡ Ok (flow_topology_of source prefix)
+flow_of_file source prefix given short named =
     let h : is_between 1 4096 (length source) ≡ true = grind (arith, nat_tests) in
-    let e : faults_of One (flow_table source prefix) ≡ [] = table_has_no_fault source prefix h in
+    let e : faults_of One (flow_table source prefix) ≡ [] = table_has_no_fault source prefix h named in
     rw e (judged_flow source prefix)

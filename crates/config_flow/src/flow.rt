@@ -92,7 +92,8 @@ fn flow_settings(alloc: Global, source: &str, prefix: &str) -> Result<Settings, 
 
 /// The topology of one pull producer named `source` on this source and one processor whose only rule is
 /// `require PREFIX`, with the format's defaults in every other place. The source may be any text: a file names
-/// one of 1 to 4096 bytes, and then the law `file_gives_flow` says that the file gives the same topology.
+/// one of 1 to 4096 bytes, of which one that begins with `many:` names several, and then the law `file_gives_flow` says that
+/// the file gives the same topology.
 pub fn flow_topology(alloc: Global, source: &str, prefix: &str) -> Result<Topology, AllocError>
     ensures value { IfOk result (λ topology. topology ≡ spec.flow_topology_of source.now prefix.now) }
     ensures sound { IfOk result IsSound }

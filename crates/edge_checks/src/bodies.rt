@@ -117,7 +117,7 @@ pub fn fetch(told: &mut Told) -> Result<(), AllocError> {
     };
     let mut body: MemBody = Body {
         callback: None,
-        source: Some(lines),
+        source: Some(Feed::Lines(lines)),
         sink: None,
     };
     fetch_two(told, &mut body)?;

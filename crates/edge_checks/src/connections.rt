@@ -29,8 +29,15 @@ fn free_port(rt: &HostRuntime) -> io::Result<u16> {
     port_of(&TcpListener::bind(rt, "127.0.0.1:0")?)
 }
 
-// The name of a connection that is made or listened for there.
-fn edge_at(rt: &HostRuntime, way: &str, host: &str, port: u16) -> io::Result<Text> {
+/// Two such ports.
+pub fn free_ports(rt: &HostRuntime) -> io::Result<(u16, u16)> {
+    let first = TcpListener::bind(rt, "127.0.0.1:0")?;
+    let second = TcpListener::bind(rt, "127.0.0.1:0")?;
+    Ok((port_of(&first)?, port_of(&second)?))
+}
+
+/// The name of a connection that is made or listened for there.
+pub fn edge_at(rt: &HostRuntime, way: &str, host: &str, port: u16) -> io::Result<Text> {
     Ok(Text::from_string(format!(in rt.alloc(); "{way}:{host}:{port}")?))
 }
 

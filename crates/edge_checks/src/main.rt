@@ -12,6 +12,7 @@ mod devices;
 mod gates;
 mod handed;
 mod homes;
+mod listeners;
 mod memory;
 mod names;
 mod own;
@@ -69,6 +70,7 @@ fn run<R: Threads + Sync>(
         "reset" => connections::reset(rt, told),
         "hang_up" => connections::hang_up(rt, waits, told),
         "refused" => connections::refused(rt, told),
+        "several" => listeners::several(rt, told),
         "no_wait" => streams::no_wait(rt, told),
         "full_pipe" => streams::full_pipe(rt, waits, told),
         _ => Ok(run_named(rt, told, part, acts)?),

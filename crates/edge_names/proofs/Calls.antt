@@ -1,19 +1,16 @@
 -- What calls by name come to, as contracts see them.
 use Rattle.std.proofs.Common.{◌≡◌, ◌≤◌, ℕ, Bool, List, [], ◌∷◌, refl, ap, sym, ◌∙◌, subst, inl, inr}
-use Rattle.std.specs.Prelude.{Option, Some, IsTrue, Result, Ok, Err}
+use Rattle.std.specs.Prelude.{IsTrue, Result, Ok, Err}
 use Rattle.std.proofs.lemmas.List.{append-nil, map_push}
 use Rattle.pipe_edges.specs.Named.{IsFreshSource, GivesSource as HasBytes, asked_after, StandsAsBefore, OthersStand, KeepsBack, AddsBack, EdgeHasCause}
 use Rattle.pipe_edges.specs.declared.edges.EdgeKind.{EdgeKind}
 use Rattle.pipe_edges.specs.declared.edges.EdgeKind.TheVariants.{Source}
 use Rattle.pipe_edges.specs.declared.edges.EdgeEnd.{EdgeEnd}
-use Rattle.pipe_edges.specs.declared.edges.EdgeEnd.TheVariants.{OutOfMemory}
 use Rattle.pipe_edges.specs.declared.source.ByteSource.{Ghosts as SourceOf}
 use Rattle.stage_bodies.specs.Seen.{SourceSeen, SinkSeen, source_seen}
 use Rattle.edge_names.specs.Seen.{EdgesSeen, edges_seen, seen_by_name}
 use Rattle.edge_names.specs.Named.{GivesSource, Opens, BacksSource, back_after}
-use Rattle.edge_names.specs.Supplies.{feed_call, feed_by}
-use Rattle.edge_names.specs.Opened.{IsOneCut, IsReturned}
-use Rattle.edge_names.proofs.Cuts.{cut_empty}
+use Rattle.edge_names.specs.Opened.{IsReturned}
 
 -- what is seen of a call that opens, and of the source that it gives
 pub opens_of : {E S K T : Type 0} (told : E → Bool) (named : E → EdgeKind → List ℕ → List ℕ) (asked : E → List (EdgeKind × List ℕ)) (faults : E → ℕ) (sources_back : E → List (List ℕ × S)) (sinks_back : E → List (List ℕ × K)) (source : S → SourceSeen) (sink : K → SinkSeen)
@@ -68,13 +65,3 @@ returned_of name source a b (Err x) h =
 
 pub gives_same : {S : Type 0} (source : S → SourceSeen) (x y : S) (edges : EdgesSeen) (name : List ℕ) → x ≡ y → GivesSource edges name (source y) → GivesSource edges name (source x)
 gives_same source x y edges name same gives = subst (λ z. GivesSource edges name z) (sym (ap source same)) gives
-
--- of a stage that names its source
-pub named_cut : (edge : Option (List ℕ)) (name : List ℕ) (a b : EdgesSeen) → edge ≡ Some name → IsOneCut (Some (Source, name)) a b → IsOneCut (feed_call (feed_by edge)) a b
-named_cut edge name a b is h = subst (λ x. IsOneCut (feed_call (feed_by x)) a b) (sym is) h
-
--- memory was wanting at the call
-pub named_empty : {T : Type 0} (edge : Option (List ℕ)) (name : List ℕ) (a b : EdgesSeen) (r : Result T EdgeEnd) (end : EdgeEnd) → edge ≡ Some name → r ≡ Err end → end ≡ OutOfMemory → Opens Source name a b r → IsOneCut (feed_call (feed_by edge)) a b
-named_empty edge name a b r end is ended none opens =
-    let wanting = subst (λ x. Opens Source name a b x) (ended ∙ ap Err none) opens in
-    named_cut edge name a b is (cut_empty (Some (Source, name)) Source name a b wanting)

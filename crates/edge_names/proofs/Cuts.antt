@@ -1,6 +1,6 @@
 -- What a failed call and want of memory leave.
-use Rattle.std.proofs.Common.{◌≡◌, ℕ, zero, suc, ◌≤◌, List, [], ◌∷◌, ◌++◌, length, take, refl, ap, sym, ◌∙◌, subst, arith, inl, inr}
-use Rattle.std.specs.Prelude.{◌⊎◌, slice_get, All, Option, Some, Ok, Err}
+use Rattle.std.proofs.Common.{◌≡◌, ℕ, ◌≤◌, List, [], ◌∷◌, ◌++◌, length, take, refl, ap, sym, ◌∙◌, subst, arith, inl, inr}
+use Rattle.std.specs.Prelude.{◌⊎◌, slice_get, Option, Some, Ok, Err}
 use Rattle.std.proofs.lemmas.List.{append-nil}
 use Rattle.std.proofs.lemmas.List.Elements.{All-cons, All-nil}
 use Rattle.pipe_types.specs.Counts.{Rose}
@@ -15,7 +15,7 @@ use Rattle.edge_names.specs.Named.{GivesSource, Opens}
 use Rattle.edge_names.specs.declared.opening.Unopened.{Unopened}
 use Rattle.edge_names.specs.declared.opening.Unopened.TheVariants.{Failed, OutOfMemory as NoMemory}
 use Rattle.edge_names.specs.Opened.{Asks, AreOpened, AreUnread, FailsToOpen, IfCutOff, IfFailed, OpensOne, IsCut, IsCutOff, IsFailed, IsOneCut, IsOneFailed, IsReturned, calls_of}
-use Rattle.edge_names.specs.Supplies.{Feeds, Feed, Supplied, calls_for, feed_calls, stage_calls, supplied}
+use Rattle.edge_names.specs.Supplies.{Feeds, Feed, Supplied, calls_for, feed_calls, supplied}
 use Rattle.edge_names.proofs.Openings.{asks_empty, asks_nothing}
 
 abbrev pub is_source : EdgeKind × List ℕ → Type 0

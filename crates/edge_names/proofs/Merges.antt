@@ -1,5 +1,5 @@
 -- The sources of a merge, opened and given back.
-use Rattle.std.proofs.Common.{◌≡◌, ◌≤◌, ◌<◌, ℕ, zero, suc, ◌+◌, Bool, true, false, List, [], ◌∷◌, ◌++◌, length, map, reverse, take, drop, refl, ap, sym, ◌∙◌, subst, inl, inr, arith}
+use Rattle.std.proofs.Common.{◌≡◌, ◌≤◌, ◌<◌, ℕ, zero, suc, ◌+◌, true, false, List, [], ◌∷◌, ◌++◌, length, map, reverse, take, drop, refl, ap, sym, ◌∙◌, subst, inl, inr, arith}
 use Rattle.std.specs.Prelude.{◌⊎◌, slice_get, All, Option, Some, None, IsSome, IfSome, OnOk, OnErr, option_map, Result, Ok, Err}
 use Rattle.std.proofs.lemmas.List.{append-nil, append_assoc, map-append, reverse-append, reverse-reverse}
 use Rattle.std.proofs.lemmas.List.Elements.{All-append, All-cons, All-nil}
@@ -17,7 +17,7 @@ use Rattle.edge_names.specs.Seen.{EdgesSeen}
 use Rattle.edge_names.specs.Named.{GivesSource}
 use Rattle.edge_names.specs.Gates.{AreInner, IsInner}
 use Rattle.edge_names.specs.Supplies.{Feed, Opened, Merged, Made, feed_at, feed_calls, given_back, merge_count, merged_names, source_call, under_names}
-use Rattle.edge_names.specs.Opened.{Asks, AreUnread, FailsToOpen, GiveSources, GivesMerge, IsCut, IsMergeOf, IsOneCut, IsOneFailed, IsSupplied, IfCutOff, IfFailed}
+use Rattle.edge_names.specs.Opened.{Asks, AreUnread, FailsToOpen, GiveSources, GivesMerge, IsMergeOf, IsOneCut, IsOneFailed, IsSupplied, IfCutOff, IfFailed}
 use Rattle.edge_names.specs.Returned.{GivesBack, GivesOff, IsBackUpTo}
 use Rattle.edge_names.specs.declared.opening.Unopened.{Unopened}
 use Rattle.edge_names.specs.declared.opening.Unopened.TheVariants.{Failed, OutOfMemory}

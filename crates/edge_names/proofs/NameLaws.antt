@@ -1,6 +1,6 @@
 -- The names in the text of a merged source.
-use Rattle.std.proofs.Common.{◌≡◌, ◌≢◌, ◌≤◌, ◌<◌, ℕ, zero, suc, ◌+◌, ◌-◌, Bool, true, false, List, [], ◌∷◌, ◌++◌, length, take, drop, get_or, cond, refl, ap, sym, ◌∙◌, subst, arith}
-use Rattle.std.specs.Prelude.{◌==◌, ◌&&◌, slice_get, count_by, Option, Some, None, option_map, if◌then◌else◌, IsSome, IfSome}
+use Rattle.std.proofs.Common.{◌≡◌, ◌≢◌, ◌≤◌, ◌<◌, ℕ, zero, suc, ◌+◌, ◌-◌, Bool, true, false, List, [], ◌∷◌, ◌++◌, length, get_or, cond, refl, ap, sym, ◌∙◌, subst, arith}
+use Rattle.std.specs.Prelude.{◌==◌, slice_get, count_by, Option, Some, None, option_map, if◌then◌else◌}
 use Rattle.std.specs.List.{list_all}
 use Rattle.std.proofs.lemmas.List.Sums.{sum_by-cons}
 use Rattle.std.proofs.lemmas.Bool.{ne_eqb, leb-true}
@@ -9,7 +9,7 @@ use denote.Ref.{Bor}
 use Rattle.pipe_types.specs.Sound.{is_between}
 use Rattle.pipe_laws.proofs.Tests.{and_left, and_right}
 use Rattle.config_rule.specs.SourceText.{are_names, before_first, is_name, merged_in, parts}
-use Rattle.edge_names.specs.Supplies.{Feed, Opened, Merged, feed_at, feed_of_names, feed_of_text, fitting, merge_count, names_of}
+use Rattle.edge_names.specs.Supplies.{Opened, feed_at, feed_of_names, feed_of_text, fitting, merge_count, names_of}
 
 -- ---- commas
 

@@ -9,7 +9,7 @@ use Rattle.stage_bodies.specs.Seen.{SourceSeen, LineSeen, FeedSeen, Single, Merg
 use Rattle.stage_bodies.specs.Jobs.{Both}
 use Rattle.edge_names.specs.Seen.{EdgesSeen}
 use Rattle.edge_names.specs.Gates.{HasNoWait, IsGated, IsInner}
-use Rattle.edge_names.specs.Supplies.{Feed, Opened, Merged, Made, Supplied, Fed, Written, calls_for, fed, feed_at, feed_calls, given_back, merge_count, merged_names, source_call, under_names, written}
+use Rattle.edge_names.specs.Supplies.{Feed, Opened, Merged, Made, Supplied, Fed, Written, calls_for, fed, feed_calls, given_back, merge_count, merged_names, source_call, under_names, written}
 use Rattle.edge_names.specs.Opened.{Asks, AreOpenedAt, FailsToOpen, HasFeed, IfCutOff, IfFailed, IsCut, IsOneCut, IsOneFailed, IsOpened, IsSupplied, OpensOne}
 use Rattle.edge_names.specs.Returned.{GivesBack, GivesOff, IsBackUpTo, IsCalm, IsCalmFeed, IsCalmOut, fed_back, feed_in, named_sink, named_source, one_source, source_in}
 use Rattle.edge_names.specs.declared.opening.Unopened.{Unopened}

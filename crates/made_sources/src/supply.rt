@@ -54,13 +54,20 @@ impl<E: Edges> Supply<E> for Made {
 
     ghost feeds = { λ m. made_feeds (seed_of m) (count_of m) (producers_of m) };
 
-    #[tactic(auto, using(edge_names::proofs::Openings::asks_nothing, edge_names::proofs::Cuts::cut_uncalled))]
+    fn merged(&self, spec: &StageSpec) -> Option<usize> {
+        let _ = spec;
+        None
+    }
+
+    #[tactic(auto, using(edge_names::proofs::Openings::asks_nothing))]
     fn supply(
         &self,
         alloc: Global,
         spec: &StageSpec,
+        place: usize,
         edges: &mut E,
     ) -> Result<Option<MadeSource>, Unopened> {
+        let _ = place;
         let _ = edges;
         match self.source_at(alloc, u32::from(spec.no.0).saturating_sub(1)) {
             Ok(source) => Ok(Some(source)),
@@ -71,10 +78,12 @@ impl<E: Edges> Supply<E> for Made {
     fn take_back(
         &self,
         spec: &StageSpec,
+        place: usize,
         source: MadeSource,
         edges: &mut E,
     ) -> Result<(), AllocError> {
         let _ = spec;
+        let _ = place;
         let _ = edges;
         drop(source);
         Ok(())

@@ -1,8 +1,11 @@
 -- The case of the call, and what was used in it.
-use Rattle.std.proofs.Common.{◌≡◌, ◌∙◌, ◌≤◌, ◌++◌, refl, sym, ap, subst, ℕ, List, [], codes, take, Bool, true, false, Option, Some, None, IfSome, Result, Ok, Err, arith}
-use Rattle.std.specs.Prelude.{IsTrue}
+use Rattle.std.proofs.Common.{◌≡◌, ◌∙◌, ◌≤◌, ◌++◌, refl, sym, ap, subst, ℕ, List, [], ◌∷◌, codes, length, take, Bool, true, false, Option, Some, None, IfSome, Result, Ok, Err, arith}
+use Rattle.std.specs.Prelude.{IsTrue, is_none}
+use Rattle.std.proofs.lemmas.List.{length-map}
 use Rattle.pipe_types.specs.declared.numbers.StageNo.{StageNo}
 use Rattle.pipe_types.specs.declared.topology.Kind.{Kind}
+use Rattle.pipe_types.specs.declared.topology.Role.{Role}
+use Rattle.pipe_types.specs.declared.topology.Role.TheVariants.{Producer, Processor, Supervisor, Batcher, BatchProcessor}
 use Rattle.pipe_types.specs.declared.topology.StageSpec.{StageSpec}
 use Rattle.pipe_types.specs.declared.topology.Topology.{Topology}
 use Rattle.pipe_types.specs.Stages.{spec_of}
@@ -10,23 +13,24 @@ use Rattle.pipe_model.specs.History.{History}
 use Rattle.pipe_model.specs.Outside.{fed}
 use Rattle.pipe_edges.specs.Paces.{Pace}
 use Rattle.pipe_edges.specs.declared.edges.EdgeKind.{EdgeKind}
-use Rattle.pipe_edges.specs.declared.edges.EdgeKind.TheVariants.{File, Source}
+use Rattle.pipe_edges.specs.declared.edges.EdgeKind.TheVariants.{File, Source, Sink}
 use Rattle.program_words.specs.Words.{Command, command_of}
 use Rattle.config_table.specs.declared.fault.ConfigFault.{ConfigFault}
 use Rattle.topology_needs.specs.declared.stock.Boxes.{Boxes}
 use Rattle.topology_needs.specs.declared.stock.Shortage.{Shortage}
 use Rattle.topology_needs.specs.Needs.{boxes_in, shortage_of}
-use Rattle.stage_bodies.specs.Seen.{SinkSeen, BoxSeen}
+use Rattle.stage_bodies.specs.Seen.{SourcesSeen, OneSource, ManySources, SinkSeen, BoxSeen}
 use Rattle.source_lines.specs.Cut.{AreFirstLines}
 use Rattle.body_laws.specs.Ready.{There}
 use Rattle.edge_names.specs.Seen.{EdgesSeen}
-use Rattle.edge_names.specs.Supplies.{Feeds, Opened, Fed, supplied}
-use Rattle.edge_names.specs.Opened.{call_in, supplied_in}
-use Rattle.edge_names.proofs.Openings.{call_opens_source}
+use Rattle.edge_names.specs.Gates.{pace_of_stage}
+use Rattle.edge_names.specs.Supplies.{Opened, Fed, calls_for, feed_by, feed_of_names, names_of, source_call, supplied_by}
+use Rattle.edge_names.specs.Opened.{calls_in, supplied_in}
+use Rattle.edge_names.proofs.NameLaws.{few_names}
 use Rattle.pipe_config.specs.File.{topology_of_file}
 use Rattle.pipe_top.specs.Boxes.{AreBoxesLeft}
 use Rattle.pipe_top.specs.Outside.{IsFedRead, IsOutside}
-use Rattle.pipe_top.specs.Cases.{Case, Named, Runs, InCase, IsNamedFile, calls_of, case_of, feeds_of, file_name, for_topology, run_case, unless_short}
+use Rattle.pipe_top.specs.Cases.{Case, Filed, Runs, InCase, IsNamedFile, calls_of, case_of, feeds_of, file_name, for_topology, run_case, unless_short}
 use Rattle.pipe_top.specs.Runs.{OutsideSeen, IsCall, IsEndOf, IsOutsideOf}
 use Rattle.own_callback.specs.Came.{run_words, case_of_file}
 use Rattle.own_callback.proofs.Commanded.{run_command, run_words_run}
@@ -48,7 +52,7 @@ written_first held held' text e adds = adds ∙ ap (λ (h : List ℕ). h ++ text
 
 -- what a whole run left of its outside
 pub record IsUsedWhole (topology : Topology) (before : History) (old new : OutsideSeen) : Type 0 where
-  pub outside : IsOutside (feeds_of Named topology) true topology before old.edges new.edges
+  pub outside : IsOutside (feeds_of Filed topology) true topology before old.edges new.edges
   pub boxes : AreBoxesLeft true topology before old.boxes new.boxes
 
 got : Topology → Option Topology → Topology
@@ -56,10 +60,10 @@ got d (Some t) = t
 got d None = d
 
 abbrev shown_run : Topology → Case
-shown_run topology = Runs (record { steps = true; acks = true }) Named topology
+shown_run topology = Runs (record { steps = true; acks = true }) Filed topology
 
 module _ (before : History) (status : ℕ) (calls : List (EdgeKind × List ℕ)) (old new : OutsideSeen) where
-  whole : (topology : Topology) (b : Bool) → (b ≡ false → status ≡ 9) → status ≤ 4 → IsOutside (feeds_of Named topology) b topology before old.edges new.edges → AreBoxesLeft b topology before old.boxes new.boxes
+  whole : (topology : Topology) (b : Bool) → (b ≡ false → status ≡ 9) → status ≤ 4 → IsOutside (feeds_of Filed topology) b topology before old.edges new.edges → AreBoxesLeft b topology before old.boxes new.boxes
       → IsUsedWhole topology before old new
   whole topology true wanting low outside boxes = record { outside = outside; boxes = boxes }
   whole topology false wanting low outside boxes = let nine : status ≡ 9 = wanting refl in absurd (omega (arith, low, nine))
@@ -78,7 +82,7 @@ module _ (before : History) (status : ℕ) (calls : List (EdgeKind × List ℕ))
   in_short (Some short) wanted topology low end outside = absurd end
 
   in_file : (boxes : Boxes) (read : Result Topology ConfigFault) (topology : Option Topology) → status ≤ 4
-      → IsEndOf topology before status (for_topology read (run_case boxes (record { steps = true; acks = true }) Named)) → IsOutsideOf (status ≡ 9) calls topology before (for_topology read (run_case boxes (record { steps = true; acks = true }) Named)) old new
+      → IsEndOf topology before status (for_topology read (run_case boxes (record { steps = true; acks = true }) Filed)) → IsOutsideOf (status ≡ 9) calls topology before (for_topology read (run_case boxes (record { steps = true; acks = true }) Filed)) old new
       → IfSome topology (λ t. IsUsedWhole t before old new)
   in_file boxes (Ok wanted) topology low end outside = in_short (shortage_of wanted boxes) wanted topology low end outside
   in_file boxes (Err fault) topology low end outside = absurd end
@@ -103,26 +107,57 @@ there : {A : Type 0} (o : Option A) (P : A → Type 0) (Q : Type 0) → There o 
 there (Some x) P Q t f = f x t
 there None P Q t f = absurd t
 
--- a stage that makes this call is supplied with what it opens
-opens : (feeds : Feeds) (o : Option StageSpec) (name : List ℕ) → call_in feeds o ≡ Some (Source, name) → (pace : Option Pace) × (supplied_in feeds o ≡ Some (Fed pace (Opened name)))
-opens feeds (Some spec) name call = call_opens_source (supplied feeds spec) name call
-opens feeds None name call = cc
+-- a stage that makes just this call is supplied with what it opens
+abbrev kind_in : List (EdgeKind × List ℕ) → EdgeKind
+kind_in [] = File
+kind_in (call ∷ calls) = call.0
+
+abbrev name_in : List (EdgeKind × List ℕ) → List ℕ
+name_in [] = []
+name_in (call ∷ calls) = call.1
+
+opens_alone : (splits : Bool) (pace : Option Pace) (r : Role) (edge : Option (List ℕ)) (name : List ℕ) → calls_for (supplied_by r pace (feed_by splits edge) edge) ≡ (Source, name) ∷ []
+    → supplied_by r pace (feed_by splits edge) edge ≡ Some (Fed pace (Opened name))
+opens_alone splits pace Producer (Some text) name call = by (names_of splits text) refl call
+  where
+    by : (names : Option (List ℕ)) → names_of splits text ≡ names → calls_for (Some (Fed pace (feed_of_names names text))) ≡ (Source, name) ∷ [] → Some (Fed pace (feed_of_names names text)) ≡ Some (Fed pace (Opened name))
+    by (Some list) is one =
+        let few = few_names splits text list is in
+        let count = sym (length-map _ source_call) ∙ ap length one in
+        let least = few.0 in
+        absurd (omega (arith, least, count))
+    by None is one = ap (λ n. Some (Fed pace (Opened n))) (ap name_in one)
+opens_alone splits pace Producer None name call = cc
+opens_alone splits pace Processor edge name call = cc
+opens_alone splits pace Supervisor edge name call = cc
+opens_alone splits pace Batcher edge name call = cc
+opens_alone splits pace BatchProcessor (Some text) name call = let kind : Sink ≡ Source = ap kind_in call in cc
+opens_alone splits pace BatchProcessor None name call = cc
+
+opens : (topology : Topology) (o : Option StageSpec) (name : List ℕ) → calls_in (feeds_of Filed topology) o ≡ (Source, name) ∷ [] → (pace : Option Pace) × (supplied_in (feeds_of Filed topology) o ≡ Some (Fed pace (Opened name)))
+opens topology (Some spec) name call = (pace_of_stage topology spec, opens_alone (is_none topology.rate) (pace_of_stage topology spec) spec.role spec.edge name call)
+opens topology None name call = cc
 
 -- it accepted the first of the lines that stand under the name of its source
-first_lines : (topology : Topology) (before : History) (old new : EdgesSeen) (name bytes : List ℕ) (p : StageNo) → IsOutside (feeds_of Named topology) true topology before old new → IsTrue old.told → old.named Source name ≡ bytes
-    → call_in (feeds_of Named topology) (spec_of topology p) ≡ Some (Source, name) → AreFirstLines bytes (fed before p)
-first_lines topology before old new name bytes p outside told stands call =
-    let supply = opens (feeds_of Named topology) (spec_of topology p) name call in
-    there _ (IsFedRead true old before p supply.0 (Opened name)) (AreFirstLines bytes (fed before p)) (outside.used.sources p supply.0 (Opened name) supply.1) (λ source fed_so.
+lines_of : (before : History) (old : EdgesSeen) (name bytes : List ℕ) (p : StageNo) (pace : Option Pace) (sources : SourcesSeen) → IsTrue old.told → old.named Source name ≡ bytes → IsFedRead true old before p pace (Opened name) sources → AreFirstLines bytes (fed before p)
+lines_of before old name bytes p pace (ManySources sources) told stands fed_so = absurd fed_so.read
+lines_of before old name bytes p pace (OneSource source) told stands fed_so =
     let read = fed_so.read in
     let gave = read.given.given told in
     let same : source.taken ++ source.left ≡ bytes = read.same_bytes gave.0 ∙ (gave.1 ∙ stands) in
-    subst (λ (b : List ℕ). AreFirstLines b (fed before p)) same (read.reads.in_order (read.same_telling ∙ gave.0)))
+    subst (λ (b : List ℕ). AreFirstLines b (fed before p)) same (read.reads.in_order (read.same_telling ∙ gave.0))
+
+first_lines : (topology : Topology) (before : History) (old new : EdgesSeen) (name bytes : List ℕ) (p : StageNo) → IsOutside (feeds_of Filed topology) true topology before old new → IsTrue old.told → old.named Source name ≡ bytes
+    → calls_in (feeds_of Filed topology) (spec_of topology p) ≡ (Source, name) ∷ [] → AreFirstLines bytes (fed before p)
+first_lines topology before old new name bytes p outside told stands call =
+    let supply = opens topology (spec_of topology p) name call in
+    there _ (IsFedRead true old before p supply.0 (Opened name)) (AreFirstLines bytes (fed before p)) (outside.used.sources p supply.0 (Opened name) supply.1)
+    (λ sources fed_so. lines_of before old name bytes p supply.0 sources told stands fed_so)
 
 -- what a whole run read, and how it left the one box
 pub accepted : (topology : Option Topology) (before : History) (old new : OutsideSeen) (name bytes : List ℕ)
     → IfSome topology (λ t. IsUsedWhole t before old new) → IsTrue old.edges.told → old.edges.named Source name ≡ bytes
-    → IfSome topology (λ t. (p : StageNo) → call_in (feeds_of Named t) (spec_of t p) ≡ Some (Source, name) → AreFirstLines bytes (fed before p))
+    → IfSome topology (λ t. (p : StageNo) → calls_in (feeds_of Filed t) (spec_of t p) ≡ (Source, name) ∷ [] → AreFirstLines bytes (fed before p))
 accepted None before old new name bytes whole told stands = tt
 accepted (Some t) before old new name bytes whole told stands = λ p call. first_lines t before old.edges new.edges name bytes p whole.outside told stands call
 

@@ -3,7 +3,7 @@ use Rattle.std.specs.Prelude.{ℕ, List, [], ◌∷◌, true, codes, take, decim
 use Rattle.pipe_types.specs.declared.topology.Kind.{Kind}
 use Rattle.pipe_config.specs.File.{topology_of_file}
 use Rattle.topology_needs.specs.Needs.{boxes_in}
-use Rattle.pipe_top.specs.Cases.{Case, Named, for_topology, run_case}
+use Rattle.pipe_top.specs.Cases.{Case, Filed, for_topology, run_case}
 
 -- the words `run t --workers N --steps --acks`
 abbrev pub run_words : (workers : ℕ) → List (List ℕ)
@@ -13,4 +13,4 @@ run_words workers = codes "run" ∷ codes "t" ∷ codes "--workers" ∷ decimal 
 -- enough for it, and the journal and the acknowledgements are shown
 abbrev pub case_of_file : (kinds : List Kind) → (file : List ℕ) → Case
 case_of_file kinds file =
-    for_topology (topology_of_file (take 1048577 file)) (run_case (boxes_in kinds) (record { steps = true; acks = true }) Named)
+    for_topology (topology_of_file (take 1048577 file)) (run_case (boxes_in kinds) (record { steps = true; acks = true }) Filed)

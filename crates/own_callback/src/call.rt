@@ -1,15 +1,15 @@
 //! A call of the program with a callback of one's own.
 
-ghost use Rattle.std.specs.Prelude.{◌≡◌, ◌≢◌, ◌≤◌, [], true, codes, map, Some, IfOk, IfSome};
+ghost use Rattle.std.specs.Prelude.{◌≡◌, ◌≢◌, ◌≤◌, [], ◌∷◌, true, codes, map, IfOk, IfSome};
 ghost use Rattle.program_words.specs.Words.{texts_of};
 ghost use Rattle.pipe_types.specs.{declared.numbers.StageNo.{StageNo}, Stages.{spec_of}};
 ghost use Rattle.pipe_model.specs.Outside.{fed};
 ghost use Rattle.pipe_edges.specs.declared.edges.EdgeKind.{EdgeKind};
 ghost use Rattle.mem_edges.specs.{MemEdges.{named_in}, MemSink.{held_by, IsUnwritten}};
 ghost use Rattle.source_lines.specs.Cut.{AreFirstLines};
-ghost use Rattle.edge_names.specs.Opened.{call_in};
+ghost use Rattle.edge_names.specs.Opened.{calls_in};
 ghost use Rattle.box_stock.specs.Lends.{kinds_of};
-ghost use Rattle.pipe_top.specs.{Boxes.{AreBoxesLeft}, Cases.{Named, feeds_of}, Runs.{IsRunOrNone, IsEndOf, IsStatusOf, out_text}};
+ghost use Rattle.pipe_top.specs.{Boxes.{AreBoxesLeft}, Cases.{Filed, feeds_of}, Runs.{IsRunOrNone, IsEndOf, IsStatusOf, out_text}};
 ghost use Rattle.own_callback.specs.{Came.{run_words, case_of_file}, Plain.{WritesPlainText}};
 
 use box_stock::{Boxed, Carries};
@@ -68,7 +68,7 @@ pub fn run_with<
         → held_by came.out ≡ out_text came.journal.steps (case_of_file (kinds_of C.seen stock.items) file.now)) }
     // What a producer of these lines accepted are the first of them.
     ensures lines { IfOk result (λ came. came.status ≤ 4 → IfSome came.topology (λ topology. (p : StageNo)
-        → call_in (feeds_of Named topology) (spec_of topology p) ≡ Some (EdgeKind.Source, codes "mem:a") → AreFirstLines lines.now (fed came.journal.steps p))) }
+        → calls_in (feeds_of Filed topology) (spec_of topology p) ≡ (EdgeKind.Source, codes "mem:a") ∷ [] → AreFirstLines lines.now (fed came.journal.steps p))) }
     // The callbacks, in their order, counted each call, and each answer other than success, that the journal says of their posts.
     ensures counted { IfOk result (λ came. came.status ≤ 4 → IfSome came.topology (λ topology.
         AreBoxesLeft true topology came.journal.steps (map C.seen stock.items)

@@ -54,7 +54,7 @@ fn run<R: Threads + Wait + Sync>(rt: &HostRuntime, waits: &R) -> Result<u8, Allo
     let mut edges = RealEdges::new(rt);
     let mut out = RealOut::standard_output(rt);
     let mut err = RealOut::standard_error(rt);
-    let clock = RealClock::new(rt);
+    let clock = RealClock::woken_by(rt, &mut edges);
     let end = run_program::<
         R,
         RealEdges,

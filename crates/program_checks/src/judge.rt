@@ -4,6 +4,9 @@ use super::case::Case;
 use super::texts::{lines_with, piece_at, sum_of};
 use std::alloc::{AllocError, Global};
 
+/// More messages than a made case has.
+const MOST_NUMBERS: usize = 1_000;
+
 /// What a run with all its texts came to: the output, what the sinks hold, the status, whether all came home, and how many
 /// steps the journal has.
 #[derive(Clone, Copy)]
@@ -125,7 +128,7 @@ pub fn fault_in_ends(
     told: Told<'_>,
     counts: Counts,
 ) -> Result<&'static str, AllocError> {
-    let mut marks = vec![in alloc; false; 100]?;
+    let mut marks = vec![in alloc; false; MOST_NUMBERS]?;
     let successful = mark_all(told.acks, 3, &mut marks);
     let failed = mark_all(told.acks, 5, &mut marks);
     let acknowledged = counts.successful.saturating_add(counts.failed);

@@ -20,6 +20,7 @@ mod own;
 mod rates;
 mod reading;
 mod slow;
+mod streams;
 mod texts;
 
 use case::{Case, halves};

@@ -5,6 +5,7 @@ ghost use Rattle.mem_edges.specs.{MemSource.{IsUnread}, MemSink.{IsUnwritten}, M
 ghost use Rattle.pipe_edges.specs.declared.edges.EdgeKind.{EdgeKind};
 
 use super::case::{Case, number};
+use super::streams::{add_streams, are_streams_free, file_of};
 use mem_edges::{
     CallList, MemClock, MemEdges, MemSink, MemSource, SinkAct, SinkScript, SourceAct, SourceScript,
 };
@@ -36,14 +37,20 @@ fn outputs_of(alloc: Global, case: &Case) -> Result<(MemSink, MemSink), AllocErr
     Ok((out, err))
 }
 
-/// Whether the first source can be opened again.
+/// Whether the first source can be opened again, and each of a merge.
 pub fn is_source_free(
     alloc: Global,
     case: &Case,
     edges: &mut MemEdges,
 ) -> Result<bool, AllocError> {
     let source = text_of(alloc, case.text_or("first", "mem:a"))?;
-    Ok(edges.open_source(&source).is_ok())
+    if edges.open_source(&source).is_err() {
+        Ok(false)
+    } else if case.text("file").contains("many:mem:a,mem:b") {
+        Ok(edges.open_source(&text_of(alloc, "mem:b")?).is_ok())
+    } else {
+        are_streams_free(alloc, case, edges)
+    }
 }
 
 /// Whether both sinks were given back.
@@ -81,7 +88,7 @@ fn bytes_of(alloc: Global, text: &str) -> Result<Bytes, AllocError> {
 }
 
 fn edges_of(alloc: Global, case: &Case) -> Result<MemEdges, AllocError> {
-    let mut edges = edges_without_sources(alloc, case)?;
+    let mut edges = add_streams(alloc, case, edges_without_sources(alloc, case)?)?;
     edges.add_source(
         text_of(alloc, "mem:b")?,
         source_of(alloc, case, "b", "b.acts")?,
@@ -116,7 +123,8 @@ fn edges_without_sources(alloc: Global, case: &Case) -> Result<MemEdges, AllocEr
     ensures { IfOk result (λ edges. (name : List ℕ) → IsNew edges EdgeKind.Source name) }
 {
     let mut edges = MemEdges::new(alloc, fails_of(alloc, case.text("fails"))?);
-    edges.add_file(text_of(alloc, "t")?, bytes_of(alloc, case.text("file"))?)?;
+    let file = file_of(alloc, case)?;
+    edges.add_file(text_of(alloc, "t")?, bytes_of(alloc, file.as_str())?)?;
     edges.add_sink(
         text_of(alloc, "mem:s")?,
         sink_of(alloc, case.text("s.acts"))?,
@@ -143,8 +151,8 @@ fn source_of(alloc: Global, case: &Case, lines: &str, acts: &str) -> Result<MemS
     Ok(MemSource::new(lines, source_script(alloc, case.text(acts))?))
 }
 
-// A number gives so many bytes, `wait` nothing yet; another word fails.
-fn source_script(alloc: Global, text: &str) -> Result<SourceScript, AllocError> {
+/// A number gives so many bytes, `wait` nothing yet; another word fails.
+pub fn source_script(alloc: Global, text: &str) -> Result<SourceScript, AllocError> {
     let mut acts = Vec::new(alloc);
     for word in text.split_whitespace() {
         acts.push(source_act(word))?;

@@ -3,6 +3,7 @@
 use super::case::Case;
 use super::judge::{Came, Counts, counts_of, fault_in_ends, fault_in_texts, parts_of};
 use super::rates::fault_in_rate;
+use super::streams::{fault_in_streams, streams_in};
 use pipe_config::read_topology;
 use pipe_replay::replay_plain;
 use pipe_types::message::{Loss, Outcome, Place};
@@ -94,7 +95,8 @@ fn fault_by_steps(
 }
 
 /// What is wrong with the run, or nothing: its counts add up, and the slow machine accepts its journal with these counts. A calm
-/// run has no crashes and no control, and so many lines that the slow machine would be too slow.
+/// run has no crashes and no control, and so many lines that the slow machine would be too slow; so has one whose case lists
+/// sources, whose lines are compared instead.
 pub fn fault_in(
     alloc: Global,
     calm: bool,
@@ -108,10 +110,13 @@ pub fn fault_in(
     let counts = counts_of(told.report);
     let fault = fault_in_texts(calm, case, came, told, counts);
     let ends = fault_in_ends(alloc, told, counts)?;
+    let whole = counts.faults == 0 && told.report.ends_with("\nend sources\n");
     if fault != "" {
         Ok(fault)
     } else if ends != "" || calm {
         Ok(ends)
+    } else if streams_in(case) > 0 {
+        fault_in_streams(alloc, case, whole, steps)
     } else {
         fault_by_steps(alloc, case, steps, counts)
     }

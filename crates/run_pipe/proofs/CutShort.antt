@@ -1,6 +1,6 @@
 -- A round once the watch was shown the journal.
-use Rattle.std.proofs.Common.{◌≡◌, ◌<◌, ◌≤◌, Bool, true, false, refl, sym, ap, ◌∙◌, subst, Option, Some, None, Result, Ok, Err}
-use Rattle.std.specs.Prelude.{IfSome, IsSome, IsTrue, is_ok, is_some}
+use Rattle.std.proofs.Common.{◌≡◌, ◌<◌, ◌≤◌, Bool, refl, sym, subst, Option, Some, None, Result, Ok, Err}
+use Rattle.std.specs.Prelude.{IsSome, IsTrue, is_ok, is_some}
 use Rattle.std.specs.Result.{IsErr}
 use Rattle.std.specs.declared.alloc.AllocError.{AllocError}
 use Rattle.pipe_types.specs.declared.numbers.Post.{Post}
@@ -8,11 +8,10 @@ use Rattle.pipe_types.specs.declared.topology.Topology.{Topology}
 use Rattle.pipe_model.specs.History.{History}
 use Rattle.pipe_model.specs.Legal.{quiet_row}
 use Rattle.pipeline_turn.specs.Jobs.{AreAway}
-use Rattle.pipeline_turn.proofs.Journals.{begins_itself, begins_through}
+use Rattle.pipeline_turn.proofs.Journals.{begins_through}
 use Rattle.pipe_model.specs.Begins.{BeginsWith}
 use Rattle.stage_bodies.specs.Seen.{BodySeen}
 use Rattle.stage_holds.specs.Holds.{AddsHold}
-use Rattle.stage_holds.specs.Nexts.{HasPausedAt}
 use Rattle.stage_holds.specs.declared.loads.Load.{Load}
 use Rattle.stage_holds.specs.declared.loads.Home.{Home}
 use Rattle.stage_workers.specs.Rounds.{IfJob, job_post, brought_post}
@@ -23,7 +22,7 @@ use Rattle.run_pipe.specs.Ends.{HasMemory}
 use Rattle.run_pipe.specs.Jobs.{IsLoadOf}
 use Rattle.run_pipe.specs.Measure.{holds_left}
 use Rattle.run_pipe.specs.Rounded.{Rounded}
-use Rattle.run_pipe.specs.Rounds.{Goes, GoesOn, IsOn, IsOver, IsWaiting, HasPaused, begins_job, cut_short, round_shown, end_shown}
+use Rattle.run_pipe.specs.Rounds.{Goes, GoesOn, IsOn, IsWaiting, HasPaused, begins_job, cut_short, round_shown, end_shown}
 use Rattle.run_pipe.specs.Seen.{PipeState, away_of}
 use Rattle.run_pipe.specs.Watches.{HasSeen}
 use Rattle.run_pipe.specs.Whole.{IsWhole}

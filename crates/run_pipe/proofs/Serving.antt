@@ -1,6 +1,6 @@
 -- A worker that does its job while it has the pipe, and holds it again.
 use Rattle.std.proofs.Common.{◌≡◌, ◌≢◌, ⊎_elim, inl, inr, Bool, true, false, refl, sym, ap, ◌∙◌, subst, Option, Some, None, Result, Ok, Err, Contains}
-use Rattle.std.specs.Prelude.{IfSome, IfOk}
+use Rattle.std.specs.Prelude.{IfSome, IfOk, IsSome}
 use Rattle.std.specs.declared.alloc.AllocError.{AllocError}
 use Rattle.pipe_types.specs.declared.numbers.Post.{Post}
 use Rattle.pipe_model.specs.Begins.{BeginsWith}
@@ -23,7 +23,6 @@ use Rattle.run_pipe.specs.declared.ends.RunEnd.{RunEnd}
 use Rattle.run_pipe.specs.Ends.{HasMemory}
 use Rattle.run_pipe.specs.Jobs.{IsLoadOf, IsBrought}
 use Rattle.run_pipe.specs.Rounded.{Rounded, IsRecorded}
-use Rattle.run_pipe.specs.Rounds.{IsOn}
 use Rattle.run_pipe.specs.Seen.{PipeState, away_of}
 use Rattle.run_pipe.specs.Serves.{Serves}
 use Rattle.run_pipe.specs.Stems.{Stems}

@@ -1,4 +1,4 @@
-use Rattle.std.proofs.Common.{ap, sym, ◌∙◌, subst, map}
+use Rattle.std.proofs.Common.{◌∙◌, subst, map}
 use Rattle.rate_gate.specs.contracts.source.GatedSourceByteSource.TheImpl.{ghosts}
 use Rattle.stage_bodies.specs.Seen.{source_seen, sink_seen}
 use Rattle.edge_names.specs.Seen.{edges_seen}

@@ -1,4 +1,4 @@
-use Rattle.std.proofs.Common.{◌∙◌, ap, sym}
+use Rattle.std.proofs.Common.{sym}
 use Rattle.edge_names.proofs.NameLaws.{count_parts}
 use Rattle.edge_names.proofs.names.count_names.Goals as goal
 

@@ -1,4 +1,4 @@
-use Rattle.std.proofs.Common.{◌≡◌, ◌∷◌, [], List, ℕ, rules, arith}
+use Rattle.std.proofs.Common.{◌≡◌, ◌∷◌, [], rules, arith}
 use Rattle.config_rule.specs.SourceText.{parts}
 use Rattle.edge_names.proofs.NameLaws.{next_place, no_place, this_place}
 use Rattle.edge_names.proofs.names.name_at.Goals as goal

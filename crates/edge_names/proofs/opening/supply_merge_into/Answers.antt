@@ -1,5 +1,4 @@
-use Rattle.std.proofs.Common.{◌≡◌, ◌≤◌, length, sym, subst, map, ap, ◌∙◌, arith}
-use Rattle.std.specs.Prelude.{Some}
+use Rattle.std.proofs.Common.{subst, map, ap, arith}
 use Rattle.std.proofs.lemmas.List.{length-map}
 use Rattle.rate_gate.specs.contracts.source.GatedSourceByteSource.TheImpl.{ghosts}
 use Rattle.stage_bodies.specs.Seen.{Merged as MergedSeen, body_at, merge_seen, source_seen, sink_seen}

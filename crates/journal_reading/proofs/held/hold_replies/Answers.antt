@@ -8,4 +8,4 @@ pub loop-at-preserved : goal.loop-at-preserved
 loop-at-preserved c = each_more IsHeldReply (replies_seen c.args.replies) c.loop-at.at (reply_seen c.item.result) c.item.ensures c.hold_reply.ensures c.loop-at.invariant
 
 pub returns : goal.returns
-returns c = each_taken IsHeldReply (replies_seen c.args.replies) c.loop-at.at (omega (arith, c.len.ensures, c.loop-at-test.false)) c.loop-at.invariant
+returns c = each_taken IsHeldReply (replies_seen c.args.replies) c.loop-at.at (omega (arith, c.len-at-end.ensures, c.loop-at-test.false)) c.loop-at.invariant

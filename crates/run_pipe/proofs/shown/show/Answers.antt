@@ -1,5 +1,4 @@
-use Rattle.std.proofs.Common.{◌≡◌, ◌∙◌, true, false, refl, sym, ap}
-use Rattle.std.specs.Prelude.{IsTrue}
+use Rattle.std.proofs.Common.{◌≡◌, ◌∙◌, true, false, sym, ap}
 use Rattle.pipe_journal.specs.Recorded.{Recorded}
 use Rattle.run_pipe.proofs.Watching.{watch_itself, seen_before, seen_all, seen_part}
 use Rattle.run_pipe.proofs.shown.show.Goals as goal

@@ -1,5 +1,4 @@
-use Rattle.std.proofs.Common.{◌≡◌, ◌∙◌, true, sym}
-use Rattle.pipe_journal.specs.declared.watch.WatchEnd.{WatchEnd}
+use Rattle.std.proofs.Common.{◌∙◌, sym}
 use Rattle.run_pipe.proofs.Watching.{failed_by}
 use Rattle.run_pipe.proofs.shown.AnyShown.show.Goals as goal
 
