@@ -3,7 +3,7 @@
 ghost use Rattle.std.specs.Prelude.{◌≡◌, ◌==◌, ◌||◌, ◌&&◌, IfOk, false, option_and_then, option_map, slice_index, bytes_eq, decimal};
 ghost use Rattle.clap.specs.{Words.{app_of, found_of, rows_of, rule_of, subcommand_rows_of}, Takes.{is_given}};
 ghost use Rattle.pipe_types.specs.Sound.{is_between};
-ghost use Rattle.program_words.specs.Words.{command_of, texts_of, seen_as, flow_of, taken_of, named_in, check_in, upgrade_in, run_in, gen_in, audit_in, workers_in, workers_of, live_in, number_in as number_in_of, number_at as number_at_of, grammar, check_grammar, run_grammar, gen_grammar, upgrade_grammar, audit_grammar, flag_rule, word_rule};
+ghost use Rattle.program_words.specs.Words.{command_of, texts_of, seen_as, flow_of, taken_of, named_in, check_in, upgrade_in, run_in, gen_in, audit_in, workers_in, workers_of, live_in, sink_of, number_in as number_in_of, number_at as number_at_of, grammar, check_grammar, run_grammar, gen_grammar, upgrade_grammar, audit_grammar, flag_rule, word_rule};
 
 use clap::error::ErrorKind;
 use clap::parser::ValueSource;
@@ -225,8 +225,19 @@ fn live<'a>(matches: &ArgMatches<'a>) -> Option<Option<&'a str>>
     ensures { option_map (option_map (λ sink. sink.now)) result ≡ live_in (rows_of (found_of matches.now)) }
 {
     match matches.get_str("live") {
-        Some(sink) if sink.is_empty() => None,
-        sink => Some(sink),
+        Some(text) => sink_name(text),
+        None => Some(None),
+    }
+}
+
+/// The text as the name of a sink, if it is not empty.
+fn sink_name<'a>(text: &'a str) -> Option<Option<&'a str>>
+    ensures { option_map (option_map (λ sink. sink.now)) result ≡ sink_of text.entry.now }
+{
+    if text.is_empty() {
+        None
+    } else {
+        Some(Some(text))
     }
 }
 
