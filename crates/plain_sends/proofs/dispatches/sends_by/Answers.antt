@@ -3,8 +3,8 @@ use Rattle.std.specs.Prelude.{map}
 use Rattle.std.proofs.lemmas.Result.{IfOk-weaker}
 use Rattle.pipe_types.specs.Stages.{spec_of}
 use Rattle.pipe_types.specs.Dispatchers.{ByBroadcast, served_as, picks_all, sends}
-use Rattle.pipe_model.specs.History.{history}
 use Rattle.pipe_model.specs.Flow.{kind_in, partition_in, picks_by, rooms_by, waiting_by}
+use Rattle.plain_queues.specs.Flows.{topology_of, history_of}
 use Rattle.plain_queues.specs.Views.{view_in}
 use Rattle.plain_sends.specs.Casts.{is_cast, with_selves}
 use Rattle.plain_sends.proofs.Marks.{parts_sent, selves_sent}
@@ -12,9 +12,9 @@ use Rattle.plain_sends.proofs.dispatches.sends_by.Goals as goal
 
 pub returns-then-is_cast : goal.returns-then-is_cast
 returns-then-is_cast c =
-    let t = c.args.past.now.topology.now in
-    let h = history c.args.past.now.steps.now in
-    let v = view_in c.args.tables.now in
+    let t = topology_of c.args.flow.now in
+    let h = history_of c.args.flow.now in
+    let v = view_in c.args.flow.now.tables.now in
     let s = c.args.stage in
     let is : is_cast (kind_in (spec_of t s)) ≡ true = sym (c.is_cast.ensures ∙ ap is_cast c.kind_of-kind.ensures) ∙ c.if-is_cast.true in
     IfOk-weaker c.cast.result _ _
@@ -27,9 +27,9 @@ returns-then-is_cast c =
 
 pub returns : goal.returns
 returns c =
-    let t = c.args.past.now.topology.now in
-    let h = history c.args.past.now.steps.now in
-    let v = view_in c.args.tables.now in
+    let t = topology_of c.args.flow.now in
+    let h = history_of c.args.flow.now in
+    let v = view_in c.args.flow.now.tables.now in
     let s = c.args.stage in
     let is : is_cast (kind_in (spec_of t s)) ≡ false = sym (c.is_cast.ensures ∙ ap is_cast c.kind_of-kind.ensures) ∙ c.if-is_cast.false in
     let units : c.as_slice-marks.result.now ≡ map {B = ℕ × ℕ} (λ n. (n, partition_in h v (spec_of t s) n)) (waiting_by t h v s) =
