@@ -1,7 +1,7 @@
 //! The batches after one more step.
 
 ghost use Rattle.std.specs.Prelude.{◌≡◌, IfOk, map, length};
-ghost use Rattle.pipe_model.specs.{History.{history, closed as closed_in}, Flow.{subs_of}};
+ghost use Rattle.pipe_model.specs.{History.{closed as closed_in}, Flow.{subs_of}};
 ghost use Rattle.plain_lives.specs.Lives.{LivesStand};
 ghost use Rattle.plain_queues.specs.{Flows.{topology_of, history_of}, Views.{batch_of, batch_place_of, view_in}};
 ghost use Rattle.plain_places.specs.{Rows.{each_from, batches_changed}, Moves.{Closed as ClosedIn, batch_place_moved, batch_moved, batch_change}};
@@ -51,62 +51,59 @@ fn subs_for(alloc: Global, sent: &[Sent], n: u32) -> Result<Vec<SubNo>, AllocErr
 
 /// Where batch `n`, which stands at that place, goes.
 fn row_place(
-    alloc: Global,
-    steps: &[Step],
+    flow: &Flow<'_>,
     change: &RowMove<'_>,
     n: u32,
     place: &BatchPlace,
 ) -> Result<BatchPlace, AllocError>
-    ensures { IfOk result (λ after. batch_place_of after ≡ batch_place_moved (history steps.now) (row_move_of change.now) n (batch_place_of place.now)) }
+    ensures { IfOk result (λ after. batch_place_of after ≡ batch_place_moved (history_of flow.now) (row_move_of change.now) n (batch_place_of place.now)) }
 {
     match change {
-        RowMove::Stays => copy_batch_place(alloc, place),
+        RowMove::Stays => copy_batch_place(flow.alloc, place),
         RowMove::SentOn(sent, alone, stage) => {
-            let subs = subs_for(alloc, sent.as_slice(), n)?;
+            let subs = subs_for(flow.alloc, sent.as_slice(), n)?;
             let is_alone = is_among(alone.as_slice(), n);
-            batch_sent(alloc, *stage, is_alone, subs.as_slice(), place)
+            batch_sent(flow.alloc, *stage, is_alone, subs.as_slice(), place)
         }
         RowMove::TakenIn(units, stage) => {
             if is_among(units.as_slice(), n) {
-                batch_on_legs(alloc, LegChange::Taken(*stage), place)
+                batch_on_legs(flow.alloc, LegChange::Taken(*stage), place)
             } else {
-                copy_batch_place(alloc, place)
+                copy_batch_place(flow.alloc, place)
             }
         }
         RowMove::AnsweredIn(stage, outcomes) => {
-            batch_on_legs(alloc, LegChange::Answered(*stage, outcomes), place)
+            batch_on_legs(flow.alloc, LegChange::Answered(*stage, outcomes), place)
         }
-        RowMove::KilledIn(set) => batch_killed(alloc, set.as_slice(), steps, place),
+        RowMove::KilledIn(set) => batch_killed(flow.alloc, set.as_slice(), flow.past.steps, place),
     }
 }
 
 fn row_after(
-    alloc: Global,
-    steps: &[Step],
+    flow: &Flow<'_>,
     change: &RowMove<'_>,
     n: u32,
     row: &BatchRow,
 ) -> Result<BatchRow, AllocError>
-    ensures { IfOk result (λ after. batch_of after ≡ batch_moved (history steps.now) (row_move_of change.now) n (batch_of row.now)) }
+    ensures { IfOk result (λ after. batch_of after ≡ batch_moved (history_of flow.now) (row_move_of change.now) n (batch_of row.now)) }
 {
-    let numbers = Vec::from_slice(alloc, row.numbers.as_slice())?;
-    let place = row_place(alloc, steps, change, n, &row.place)?;
+    let numbers = Vec::from_slice(flow.alloc, row.numbers.as_slice())?;
+    let place = row_place(flow, change, n, &row.place)?;
     Ok(BatchRow { numbers, place })
 }
 
 /// The batches after their moves.
 fn rows_moved(
-    alloc: Global,
-    steps: &[Step],
+    flow: &Flow<'_>,
     change: &RowMove<'_>,
     rows: &[BatchRow],
 ) -> Result<Vec<BatchRow>, AllocError>
-    ensures { IfOk result (λ after. map batch_of after.items ≡ each_from (batch_moved (history steps.now) (row_move_of change.now)) 1 (map batch_of rows.now)) }
+    ensures { IfOk result (λ after. map batch_of after.items ≡ each_from (batch_moved (history_of flow.now) (row_move_of change.now)) 1 (map batch_of rows.now)) }
 {
-    let mut after = Vec::new(alloc);
+    let mut after = Vec::new(flow.alloc);
     for i in 0..rows.len() {
         let n = unit_no(i as u64 + 1)?;
-        let row = row_after(alloc, steps, change, n, &rows[i])?;
+        let row = row_after(flow, change, n, &rows[i])?;
         after.push(row)?;
     }
     Ok(after)
@@ -150,16 +147,15 @@ fn row_change<'a>(flow: &Flow<'_>, step: &'a Step) -> Result<RowChange<'a>, Allo
 
 /// The batches, and one more of these messages, which waits in the stage.
 fn with_batch(
-    alloc: Global,
-    steps: &[Step],
+    flow: &Flow<'_>,
     numbers: &[u32],
     stage: StageNo,
     rows: &[BatchRow],
 ) -> Result<Vec<BatchRow>, AllocError>
-    ensures { IfOk result (λ after. map batch_of after.items ≡ batches_changed (history steps.now) (ClosedIn numbers.now stage) (map batch_of rows.now)) }
+    ensures { IfOk result (λ after. map batch_of after.items ≡ batches_changed (history_of flow.now) (ClosedIn numbers.now stage) (map batch_of rows.now)) }
 {
-    let mut after = rows_moved(alloc, steps, &RowMove::Stays, rows)?;
-    let numbers = Vec::from_slice(alloc, numbers)?;
+    let mut after = rows_moved(flow, &RowMove::Stays, rows)?;
+    let numbers = Vec::from_slice(flow.alloc, numbers)?;
     after.push(BatchRow {
         numbers,
         place: BatchPlace::AtBatcher(stage),
@@ -169,18 +165,15 @@ fn with_batch(
 
 /// The batches after a change.
 fn rows_by(
-    alloc: Global,
-    steps: &[Step],
+    flow: &Flow<'_>,
     change: &RowChange<'_>,
     rows: &[BatchRow],
 ) -> Result<Vec<BatchRow>, AllocError>
-    ensures { IfOk result (λ after. map batch_of after.items ≡ batches_changed (history steps.now) (row_change_of change.now) (map batch_of rows.now)) }
+    ensures { IfOk result (λ after. map batch_of after.items ≡ batches_changed (history_of flow.now) (row_change_of change.now) (map batch_of rows.now)) }
 {
     match change {
-        RowChange::Closed(numbers, stage) => {
-            with_batch(alloc, steps, numbers.as_slice(), *stage, rows)
-        },
-        RowChange::RowsMoved(moves) => rows_moved(alloc, steps, moves, rows),
+        RowChange::Closed(numbers, stage) => { with_batch(flow, numbers.as_slice(), *stage, rows) },
+        RowChange::RowsMoved(moves) => rows_moved(flow, moves, rows),
     }
 }
 

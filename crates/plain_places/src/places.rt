@@ -157,18 +157,13 @@ fn place_change<'a>(
 }
 
 /// The places after their moves.
-fn all_moved(
-    alloc: Global,
-    steps: &[Step],
-    moves: &Move<'_>,
-    places: &[Place],
-) -> Result<Vec<Place>, AllocError>
-    ensures { IfOk result (λ after. after.items ≡ each_from (moved_by (history steps.now) (move_of moves.now)) 1 places.now) }
+fn all_moved(flow: &Flow<'_>, moves: &Move<'_>, places: &[Place]) -> Result<Vec<Place>, AllocError>
+    ensures { IfOk result (λ after. after.items ≡ each_from (moved_by (history_of flow.now) (move_of moves.now)) 1 places.now) }
 {
-    let mut after = Vec::new(alloc);
+    let mut after = Vec::new(flow.alloc);
     for i in 0..places.len() {
         let n = unit_no(i as u64 + 1)?;
-        let place = moved(steps, moves, n, places[i])?;
+        let place = moved(flow.past.steps, moves, n, places[i])?;
         after.push(place)?;
     }
     Ok(after)
@@ -192,16 +187,15 @@ fn with_more(
 
 /// The places after a change.
 fn places_by(
-    alloc: Global,
-    steps: &[Step],
+    flow: &Flow<'_>,
     change: &Change<'_>,
     places: &[Place],
 ) -> Result<Vec<Place>, AllocError>
-    ensures { IfOk result (λ after. after.items ≡ places_changed (history steps.now) (change_of change.now) places.now) }
+    ensures { IfOk result (λ after. after.items ≡ places_changed (history_of flow.now) (change_of change.now) places.now) }
 {
     match change {
-        Change::Added(count, new) => with_more(alloc, places, *count, new),
-        Change::Moved(moves) => all_moved(alloc, steps, moves, places),
+        Change::Added(count, new) => with_more(flow.alloc, places, *count, new),
+        Change::Moved(moves) => all_moved(flow, moves, places),
     }
 }
 

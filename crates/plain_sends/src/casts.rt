@@ -16,6 +16,13 @@ use plain_dispatch::has_rooms;
 use plain_queues::{Flow, key_of};
 use std::alloc::AllocError;
 
+/// What a dispatch sends, each unit by its number, and which of the waiting units it serves.
+#[derive(Drop)]
+pub(crate) struct Dispatched {
+    pub sent: Vec<Sent>,
+    pub served: Vec<u32>,
+}
+
 /// Whether the key of the message begins with the text.
 fn does_begin(steps: &[Step], n: u32, text: &[u8]) -> Result<bool, AllocError>
     ensures { IfOk result (λ begins. begins ≡ begins_with text.now (key_in (content_in (history steps.now) n))) }
@@ -117,22 +124,6 @@ fn cast_last(
     Ok(more)
 }
 
-/// What a broadcast sends of these batches, by batch and then by room.
-pub(crate) fn cast(
-    flow: &Flow<'_>,
-    rooms: &[Room],
-    batches: &[u32],
-) -> Result<Vec<Sent>, AllocError>
-    ensures { IfOk result (λ sent. sent.items ≡ sends_in (ByBroadcast (picks_by (topology_of flow.now) (history_of flow.now) (view_in flow.now.tables.now))) rooms.now (with_selves batches.now)) }
-{
-    let mut sent = Vec::new(flow.alloc);
-    for i in 0..batches.len() {
-        let more = cast_last(sent, flow, rooms, &batches[..i + 1], batches[i])?;
-        sent = more;
-    }
-    Ok(sent)
-}
-
 /// Whether a broadcast serves the last of these batches.
 fn is_last_served(flow: &Flow<'_>, rooms: &[Room], batches: &[u32]) -> Result<bool, AllocError>
     ensures { IfOk result (λ served. served ≡ (has_rooms_in rooms.now && fit_all_in (picks_by (topology_of flow.now) (history_of flow.now) (view_in flow.now.tables.now)) rooms.now batches.now)) }
@@ -160,18 +151,23 @@ fn serve_last(
     Ok(more)
 }
 
-/// Those of these batches that a broadcast in at least one room serves, in order.
-pub(crate) fn served_in(
+/// What a broadcast sends of these batches, by batch and then by room, and those of them that it serves, in order: none where
+/// there is no room.
+pub(crate) fn cast(
     flow: &Flow<'_>,
     rooms: &[Room],
     batches: &[u32],
-) -> Result<Vec<u32>, AllocError>
-    ensures { IfOk result (λ served. served.items ≡ serves_in (ByBroadcast (picks_by (topology_of flow.now) (history_of flow.now) (view_in flow.now.tables.now))) rooms.now (with_selves batches.now)) }
+) -> Result<Dispatched, AllocError>
+    ensures sent { IfOk result (λ all. all.sent.items ≡ sends_in (ByBroadcast (picks_by (topology_of flow.now) (history_of flow.now) (view_in flow.now.tables.now))) rooms.now (with_selves batches.now)) }
+    ensures served { IfOk result (λ all. all.served.items ≡ serves_in (ByBroadcast (picks_by (topology_of flow.now) (history_of flow.now) (view_in flow.now.tables.now))) rooms.now (with_selves batches.now)) }
 {
+    let mut sent = Vec::new(flow.alloc);
     let mut served = Vec::new(flow.alloc);
     for i in 0..batches.len() {
-        let more = serve_last(served, flow, rooms, &batches[..i + 1], batches[i])?;
-        served = more;
+        let more_sent = cast_last(sent, flow, rooms, &batches[..i + 1], batches[i])?;
+        let more_served = serve_last(served, flow, rooms, &batches[..i + 1], batches[i])?;
+        sent = more_sent;
+        served = more_served;
     }
-    Ok(served)
+    Ok(Dispatched { sent, served })
 }

@@ -8,7 +8,7 @@ ghost use Rattle.plain_lives.specs.Lives.{LivesStand};
 ghost use Rattle.plain_queues.specs.{Flows.{topology_of, history_of}, Views.{view_in}};
 ghost use Rattle.plain_sends.specs.Casts.{is_cast as is_cast_in};
 
-use crate::casts::{cast, served_in};
+use crate::casts::{Dispatched, cast};
 use crate::demand::rooms;
 use crate::partitions::partition;
 use pipe_types::numbers::StageNo;
@@ -39,10 +39,11 @@ fn with_parts(flow: &Flow<'_>, stage: StageNo, units: &[u32]) -> Result<Vec<(u32
     Ok(all)
 }
 
-/// What a dispatch of the stage sends, each unit by its number.
-pub fn sends_by(flow: &Flow<'_>, stage: StageNo) -> Result<Vec<Sent>, AllocError>
+/// What a dispatch of the stage sends, and what it serves.
+fn dispatched(flow: &Flow<'_>, stage: StageNo) -> Result<Dispatched, AllocError>
     requires { LivesStand (topology_of flow.now) (history_of flow.now) flow.now.past.lives.now }
-    ensures { IfOk result (λ sent. sent.items ≡ sends_by_in (topology_of flow.now) (history_of flow.now) (view_in flow.now.tables.now) stage) }
+    ensures sent { IfOk result (λ all. all.sent.items ≡ sends_by_in (topology_of flow.now) (history_of flow.now) (view_in flow.now.tables.now) stage) }
+    ensures served { IfOk result (λ all. all.served.items ≡ served_by_in (topology_of flow.now) (history_of flow.now) (view_in flow.now.tables.now) stage) }
 {
     let rooms = rooms(flow, stage)?;
     let waiting = waiting(flow, stage)?;
@@ -54,25 +55,21 @@ pub fn sends_by(flow: &Flow<'_>, stage: StageNo) -> Result<Vec<Sent>, AllocError
     }
     let marked = with_parts(flow, stage, units)?;
     let marks = marked.as_slice();
-    sends(flow.alloc, kind, here, marks)
+    let sent = sends(flow.alloc, kind, here, marks)?;
+    let served = serves(flow.alloc, kind, here, marks)?;
+    Ok(Dispatched { sent, served })
 }
 
-/// The waiting units that a dispatch of the stage serves.
-fn served_by(flow: &Flow<'_>, stage: StageNo) -> Result<Vec<u32>, AllocError>
+/// What a dispatch of the stage sends, each unit by its number.
+pub fn sends_by(flow: &Flow<'_>, stage: StageNo) -> Result<Vec<Sent>, AllocError>
     requires { LivesStand (topology_of flow.now) (history_of flow.now) flow.now.past.lives.now }
-    ensures { IfOk result (λ served. served.items ≡ served_by_in (topology_of flow.now) (history_of flow.now) (view_in flow.now.tables.now) stage) }
+    ensures { IfOk result (λ sent. sent.items ≡ sends_by_in (topology_of flow.now) (history_of flow.now) (view_in flow.now.tables.now) stage) }
 {
-    let rooms = rooms(flow, stage)?;
-    let waiting = waiting(flow, stage)?;
-    let here = rooms.as_slice();
-    let units = waiting.as_slice();
-    let kind = kind_of(flow.past.topology, stage);
-    if is_cast(kind) {
-        return served_in(flow, here, units);
-    }
-    let marked = with_parts(flow, stage, units)?;
-    let marks = marked.as_slice();
-    serves(flow.alloc, kind, here, marks)
+    let Dispatched {
+        sent,
+        served: _served,
+    } = dispatched(flow, stage)?;
+    Ok(sent)
 }
 
 fn is_cast(kind: Dispatch) -> bool
@@ -89,8 +86,7 @@ pub fn alone(flow: &Flow<'_>, stage: StageNo) -> Result<Vec<u32>, AllocError>
     if !is_batcher_stage(flow.past.topology, stage) {
         return Ok(Vec::new(flow.alloc));
     }
-    let sent = sends_by(flow, stage)?;
-    let served = served_by(flow, stage)?;
+    let Dispatched { sent, served } = dispatched(flow, stage)?;
     unsent(flow.alloc, sent.as_slice(), served.as_slice())
 }
 
