@@ -40,7 +40,7 @@ fn with_parts(flow: &Flow<'_>, stage: StageNo, units: &[u32]) -> Result<Vec<(u32
 }
 
 /// What a dispatch of the stage sends, and what it serves.
-fn dispatched(flow: &Flow<'_>, stage: StageNo) -> Result<Dispatched, AllocError>
+fn dispatch_of(flow: &Flow<'_>, stage: StageNo) -> Result<Dispatched, AllocError>
     requires { LivesStand (topology_of flow.now) (history_of flow.now) flow.now.past.lives.now }
     ensures sent { IfOk result (λ all. all.sent.items ≡ sends_by_in (topology_of flow.now) (history_of flow.now) (view_in flow.now.tables.now) stage) }
     ensures served { IfOk result (λ all. all.served.items ≡ served_by_in (topology_of flow.now) (history_of flow.now) (view_in flow.now.tables.now) stage) }
@@ -68,7 +68,7 @@ pub fn sends_by(flow: &Flow<'_>, stage: StageNo) -> Result<Vec<Sent>, AllocError
     let Dispatched {
         sent,
         served: _served,
-    } = dispatched(flow, stage)?;
+    } = dispatch_of(flow, stage)?;
     Ok(sent)
 }
 
@@ -86,7 +86,7 @@ pub fn alone(flow: &Flow<'_>, stage: StageNo) -> Result<Vec<u32>, AllocError>
     if !is_batcher_stage(flow.past.topology, stage) {
         return Ok(Vec::new(flow.alloc));
     }
-    let Dispatched { sent, served } = dispatched(flow, stage)?;
+    let Dispatched { sent, served } = dispatch_of(flow, stage)?;
     unsent(flow.alloc, sent.as_slice(), served.as_slice())
 }
 

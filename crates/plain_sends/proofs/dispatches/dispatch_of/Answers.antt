@@ -11,8 +11,8 @@ use Rattle.plain_queues.specs.Flows.{topology_of, history_of}
 use Rattle.plain_queues.specs.Views.{view_in}
 use Rattle.plain_sends.specs.Casts.{is_cast, with_selves}
 use Rattle.plain_sends.proofs.Marks.{parts_sent, parts_served, selves_sent, selves_served}
-use Rattle.plain_sends.proofs.dispatches.dispatched.Goals.{After-is_cast, After-as_slice-marks}
-use Rattle.plain_sends.proofs.dispatches.dispatched.Goals as goal
+use Rattle.plain_sends.proofs.dispatches.dispatch_of.Goals.{After-is_cast, After-as_slice-marks}
+use Rattle.plain_sends.proofs.dispatches.dispatch_of.Goals as goal
 
 abbrev kind : (c : After-is_cast) → Dispatch
 kind c = kind_in (spec_of (topology_of c.args.flow.now) c.args.stage)
