@@ -5,25 +5,30 @@ use Rattle.pipe_types.specs.declared.message.Why.TheVariants.{Kill as ByKill}
 use Rattle.pipe_types.specs.declared.step.Step.{Step}
 use Rattle.pipe_types.specs.declared.step.Step.TheVariants.{Ask, Fetch, Accept, Dispatch, Take, Done, Kill, Restart}
 use Rattle.pipe_types.specs.Numbers.{stage}
-use Rattle.model_checks.proofs.Base.{may_come_after, is_refused_after, one_each, sub, passes, by_key}
+use Rattle.model_checks.proofs.Base.{may_come_after, is_refused_after, one_each, sub, passes, by_key, none_may_come_after}
 
 -- the first ask is the maximum
 first_ask : may_come_after one_each [] (Ask (sub 2 1 1) 10) ≡ true
 first_ask = refl
 
 -- no other size
-too_few : is_refused_after one_each [] (Ask (sub 2 1 1) 9) ≡ true
-too_few = refl
-
-too_many : is_refused_after one_each [] (Ask (sub 2 1 1) 11) ≡ true
-too_many = refl
+asks_otherwise : none_may_come_after one_each [] (
+    Ask (sub 2 1 1) 9
+    ∷ Ask (sub 2 1 1) 11
+    -- no pair that does not feed
+    ∷ Ask (sub 1 2 1) 10
+    ∷ Ask (sub 3 1 1) 10
+    -- the generation of the present pair alone
+    ∷ Ask (sub 2 1 2) 10
+    ∷ []) ≡ true
+asks_otherwise = refl
 
 -- not again while more than the minimum is in flight
-again : is_refused_after one_each (Ask (sub 2 1 1) 10 ∷ []) (Ask (sub 2 1 1) 10) ≡ true
-again = refl
-
-nothing : is_refused_after one_each (Ask (sub 2 1 1) 10 ∷ []) (Ask (sub 2 1 1) 0) ≡ true
-nothing = refl
+asks_again : none_may_come_after one_each (Ask (sub 2 1 1) 10 ∷ []) (
+    Ask (sub 2 1 1) 10
+    ∷ Ask (sub 2 1 1) 0
+    ∷ []) ≡ true
+asks_again = refl
 
 -- six of ten are in flight
 abbrev four_handled : List Step
@@ -46,13 +51,6 @@ at_the_minimum = refl
 not_the_maximum_then : is_refused_after one_each five_handled (Ask (sub 2 1 1) 10) ≡ true
 not_the_maximum_then = refl
 
--- no pair that does not feed
-upwards : is_refused_after one_each [] (Ask (sub 1 2 1) 10) ≡ true
-upwards = refl
-
-unknown_stage : is_refused_after one_each [] (Ask (sub 3 1 1) 10) ≡ true
-unknown_stage = refl
-
 other_batcher : is_refused_after by_key [] (Ask (sub 4 2 1) 1) ≡ true
 other_batcher = refl
 
@@ -62,10 +60,6 @@ dead_producer = refl
 
 dead_consumer : is_refused_after one_each (Kill (stage 2) ByKill ∷ []) (Ask (sub 2 1 1) 10) ≡ true
 dead_consumer = refl
-
--- the generation of the present pair alone
-later_generation : is_refused_after one_each [] (Ask (sub 2 1 2) 10) ≡ true
-later_generation = refl
 
 new_generation : may_come_after one_each (Ask (sub 2 1 1) 10 ∷ Kill (stage 2) ByKill ∷ Restart (stage 2) ∷ []) (Ask (sub 2 1 2) 10) ≡ true
 new_generation = refl

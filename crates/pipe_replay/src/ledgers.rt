@@ -21,7 +21,7 @@ fn sent(machine: &Machine<'_>, sub: SubNo) -> Result<u64, AllocError>
     requires { MachineStands machine.now }
     ensures { IfOk result (λ n. n ≡ sent_in (topology_of machine.now) (history_of machine.now) sub) }
 {
-    sent_on(machine.tables, sub)
+    sent_on(machine.flow.tables, sub)
 }
 
 /// The counts of a subscription.
@@ -29,10 +29,10 @@ fn sub_row(machine: &Machine<'_>, sub: SubNo) -> Result<SubRow, AllocError>
     requires { MachineStands machine.now }
     ensures { IfOk result (λ row. row ≡ sub_row_in (topology_of machine.now) (history_of machine.now) sub) }
 {
-    let asked = asked(machine.past.steps, sub)?;
+    let asked = asked(machine.flow.past.steps, sub)?;
     let sent = sent(machine, sub)?;
-    let handled = handled(&machine.past, machine.works, sub)?;
-    let live = machine.past.is_live_sub(sub)?;
+    let handled = handled(&machine.flow.past, machine.works, sub)?;
+    let live = machine.flow.past.is_live_sub(sub)?;
     Ok(SubRow {
         sub,
         asked,
@@ -75,10 +75,10 @@ fn push_pair(
     requires { MachineStands machine.now }
     ensures { IfOk result (λ rows. rows.items ≡ old.items ++ rows_of_pair_in (topology_of machine.now) (history_of machine.now) consumer producer) }
 {
-    if !feeds(machine.past.topology, producer, consumer) {
+    if !feeds(machine.flow.past.topology, producer, consumer) {
         return Ok(old);
     }
-    let last = generation(machine.past.lives, consumer, producer)?;
+    let last = generation(machine.flow.past.lives, consumer, producer)?;
     push_generations(old, machine, consumer, producer, last)
 }
 
@@ -91,7 +91,7 @@ fn push_consumer(
     requires { MachineStands machine.now }
     ensures { IfOk result (λ rows. rows.items ≡ old.items ++ rows_of_consumer_in (topology_of machine.now) (history_of machine.now) consumer (topology_of machine.now).stages) }
 {
-    let specs = machine.past.topology.stages.as_slice();
+    let specs = machine.flow.past.topology.stages.as_slice();
     let mut rows = old;
     for spec in specs {
         rows = push_pair(rows, machine, consumer, spec.no)?;
@@ -104,7 +104,7 @@ pub(crate) fn sub_rows(alloc: Global, machine: &Machine<'_>) -> Result<Vec<SubRo
     requires { MachineStands machine.now }
     ensures { IfOk result (λ rows. rows.items ≡ rows_of_all_in (topology_of machine.now) (history_of machine.now) (topology_of machine.now).stages) }
 {
-    let specs = machine.past.topology.stages.as_slice();
+    let specs = machine.flow.past.topology.stages.as_slice();
     let mut rows = Vec::new(alloc);
     for spec in specs {
         rows = push_consumer(rows, machine, spec.no)?;

@@ -16,6 +16,7 @@ use pipe_types::topology::Topology;
 use plain_counts::{has_drained, has_halted, now};
 use plain_legal::Machine;
 use plain_lives::Past;
+use plain_queues::Flow;
 use std::alloc::{AllocError, Global};
 
 /// The state, row by row.
@@ -34,12 +35,16 @@ fn rows_of(
         steps,
         lives: &state.lives,
     };
-    let machine = Machine {
+    let flow = Flow {
+        alloc,
         past,
         tables: &state.tables,
+    };
+    let machine = Machine {
+        flow,
         works: &state.works,
     };
-    let places = place_rows(alloc, &past, &state.tables, state.settled.as_slice())?;
+    let places = place_rows(&flow, state.settled.as_slice())?;
     let subs = sub_rows(alloc, &machine)?;
     let lives = life_rows(alloc, &past)?;
     Ok(PlainState {

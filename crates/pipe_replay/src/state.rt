@@ -11,7 +11,7 @@ use pipe_types::topology::Topology;
 use plain_legal::{Machine, allows};
 use plain_lives::{Lives, Past, lives_after};
 use plain_places::{no_tables, tables_after};
-use plain_queues::Tables;
+use plain_queues::{Flow, Tables};
 use plain_works::{Works, no_works, works_after};
 use std::alloc::{AllocError, Global};
 
@@ -52,15 +52,18 @@ fn may_follow(
     ensures { IfOk result (λ may. may ≡ allows_in topology.now (history before.now) step.now) }
 {
     let machine = Machine {
-        past: Past {
-            topology,
-            steps: before,
-            lives: &state.lives,
+        flow: Flow {
+            alloc,
+            past: Past {
+                topology,
+                steps: before,
+                lives: &state.lives,
+            },
+            tables: &state.tables,
         },
-        tables: &state.tables,
         works: &state.works,
     };
-    allows(alloc, &machine, step)
+    allows(&machine, step)
 }
 
 /// After one more step.
@@ -80,14 +83,18 @@ fn state_after(
         works,
         settled,
     } = state;
-    let past = Past {
-        topology,
-        steps: before,
-        lives: &lives,
+    let flow = Flow {
+        alloc,
+        past: Past {
+            topology,
+            steps: before,
+            lives: &lives,
+        },
+        tables: &old,
     };
-    let tables = tables_after(alloc, &past, &old, step)?;
-    let settled = settled_after(alloc, &past, &old, &tables, settled.as_slice(), step)?;
-    let works = works_after(alloc, &past, &old, works, step)?;
+    let tables = tables_after(&flow, step)?;
+    let settled = settled_after(&flow, &tables, settled.as_slice(), step)?;
+    let works = works_after(&flow, works, step)?;
     let lives = lives_after(alloc, topology, lives, step)?;
     Ok(State {
         lives,

@@ -159,7 +159,7 @@ fn goes_somewhere(
 }
 
 /// Whether there is a room.
-fn has_rooms(rooms: &[Room]) -> bool
+pub fn has_rooms(rooms: &[Room]) -> bool
     ensures { result ≡ has_rooms_in rooms.now }
 {
     match rooms.first() {

@@ -12,16 +12,16 @@ use Rattle.plain_legal.specs.declared.owed.Owed.{Owed}
 use Rattle.plain_legal.specs.declared.owed.Owed.TheVariants.{Nothing, DispatchOf, CrashOf}
 
 abbrev pub topology_of : Machine → Topology
-topology_of machine = machine.past.topology.now
+topology_of machine = machine.flow.past.topology.now
 
 -- the history of the steps so far
 abbrev pub history_of : Machine → History
-history_of machine = history machine.past.steps.now
+history_of machine = history machine.flow.past.steps.now
 
 -- the lives, the tables and the works are those of the history
 pub record MachineStands (machine : Machine) : Type 0 where
-  pub lives : LivesStand (topology_of machine) (history_of machine) machine.past.lives.now
-  pub tables : TablesStand (topology_of machine) (history_of machine) machine.tables.now
+  pub lives : LivesStand (topology_of machine) (history_of machine) machine.flow.past.lives.now
+  pub tables : TablesStand (topology_of machine) (history_of machine) machine.flow.tables.now
   pub works : WorksStand (topology_of machine) (history_of machine) machine.works.now
 
 -- the test of the step that is owed

@@ -13,7 +13,7 @@ use pipe_types::step::Step;
 use plain_counts::{is_batch_processor, is_current, is_processor, is_supervisor};
 use plain_handlers::{are_handled, is_batch_handled};
 use plain_works::{batch_of, child_of, chunk_of, count, due};
-use std::alloc::{AllocError, Global};
+use std::alloc::AllocError;
 use std::slice::from_ref;
 
 /// Whether the ask is due.
@@ -21,13 +21,12 @@ pub(crate) fn may_ask(machine: &Machine<'_>, sub: SubNo, n: u32) -> Result<bool,
     requires { MachineStands machine.now }
     ensures { IfOk result (λ may. may ≡ may_come (topology_of machine.now) (history_of machine.now) (Step.Ask sub n)) }
 {
-    let due = due(&machine.past, machine.works, sub)?;
+    let due = due(&machine.flow.past, machine.works, sub)?;
     Ok(1 <= n && u64::from(n) == due)
 }
 
 /// Whether the replies are the handler's to the chunk that the stage took.
 fn answers_chunk(
-    alloc: Global,
     machine: &Machine<'_>,
     stage: StageNo,
     replies: &[Reply],
@@ -35,15 +34,14 @@ fn answers_chunk(
     requires { MachineStands machine.now }
     ensures { IfOk result (λ are. are ≡ are_handled_in (spec_of (topology_of machine.now) stage) (count_in (topology_of machine.now) (history_of machine.now) stage) (chunk_of_in (topology_of machine.now) (history_of machine.now) stage) replies.now) }
 {
-    let chunk = chunk_of(alloc, &machine.past, machine.works, stage)?;
-    let seen = count(&machine.past, machine.works, stage);
-    let spec = machine.past.topology.stages.find(stage);
-    are_handled(alloc, spec, seen, chunk.as_slice(), replies)
+    let chunk = chunk_of(&machine.flow, machine.works, stage)?;
+    let seen = count(&machine.flow.past, machine.works, stage);
+    let spec = machine.flow.past.topology.stages.find(stage);
+    are_handled(machine.flow.alloc, spec, seen, chunk.as_slice(), replies)
 }
 
 /// Whether the processor may answer its chunk so.
 pub(crate) fn may_reply(
-    alloc: Global,
     machine: &Machine<'_>,
     stage: StageNo,
     replies: &[Reply],
@@ -51,15 +49,14 @@ pub(crate) fn may_reply(
     requires { MachineStands machine.now }
     ensures { IfOk result (λ may. may ≡ may_come (topology_of machine.now) (history_of machine.now) (Step.Done stage replies.now)) }
 {
-    let answered = answers_chunk(alloc, machine, stage, replies)?;
-    let current = is_current(machine.past.steps, stage, 0)?;
-    let handles = is_processor(machine.past.topology, stage);
-    Ok(machine.past.is_live(stage) && (handles && (current && answered)))
+    let answered = answers_chunk(machine, stage, replies)?;
+    let current = is_current(machine.flow.past.steps, stage, 0)?;
+    let handles = is_processor(machine.flow.past.topology, stage);
+    Ok(machine.flow.past.is_live(stage) && (handles && (current && answered)))
 }
 
 /// Whether the batch that the stage has taken ends so, with so many bytes written.
 pub(crate) fn ends_batch(
-    alloc: Global,
     machine: &Machine<'_>,
     stage: StageNo,
     bytes: u64,
@@ -68,15 +65,14 @@ pub(crate) fn ends_batch(
     requires { MachineStands machine.now }
     ensures { IfOk result (λ ends. ends ≡ ends_batch_in (topology_of machine.now) (history_of machine.now) stage bytes end.now) }
 {
-    let batch = batch_of(alloc, &machine.past, machine.tables, machine.works, stage)?;
-    let seen = count(&machine.past, machine.works, stage);
-    let spec = machine.past.topology.stages.find(stage);
-    is_batch_handled(alloc, spec, seen, batch.as_slice(), bytes, end)
+    let batch = batch_of(&machine.flow, machine.works, stage)?;
+    let seen = count(&machine.flow.past, machine.works, stage);
+    let spec = machine.flow.past.topology.stages.find(stage);
+    is_batch_handled(machine.flow.alloc, spec, seen, batch.as_slice(), bytes, end)
 }
 
 /// Whether the batch processor may end its batch so.
 pub(crate) fn may_write(
-    alloc: Global,
     machine: &Machine<'_>,
     stage: StageNo,
     bytes: u64,
@@ -85,15 +81,14 @@ pub(crate) fn may_write(
     requires { MachineStands machine.now }
     ensures { IfOk result (λ may. may ≡ may_come (topology_of machine.now) (history_of machine.now) (Step.Wrote stage bytes end.now)) }
 {
-    let ended = ends_batch(alloc, machine, stage, bytes, end)?;
-    let current = is_current(machine.past.steps, stage, 0)?;
-    let writes = is_batch_processor(machine.past.topology, stage);
-    Ok(machine.past.is_live(stage) && (writes && (current && ended)))
+    let ended = ends_batch(machine, stage, bytes, end)?;
+    let current = is_current(machine.flow.past.steps, stage, 0)?;
+    let writes = is_batch_processor(machine.flow.past.topology, stage);
+    Ok(machine.flow.past.is_live(stage) && (writes && (current && ended)))
 }
 
 /// Whether the reply is the handler's to the message of the child in the slot, which counts from 0.
 fn answers_child(
-    alloc: Global,
     machine: &Machine<'_>,
     stage: StageNo,
     slot: u16,
@@ -101,14 +96,13 @@ fn answers_child(
 ) -> Result<bool, AllocError>
     ensures { IfOk result (λ are. are ≡ are_handled_in (spec_of (topology_of machine.now) stage) 0 (child_of_in (history_of machine.now) stage slot) replies.now) }
 {
-    let messages = child_of(alloc, machine.past.steps, stage, slot)?;
-    let spec = machine.past.topology.stages.find(stage);
-    are_handled(alloc, spec, 0, messages.as_slice(), replies)
+    let messages = child_of(machine.flow.alloc, machine.flow.past.steps, stage, slot)?;
+    let spec = machine.flow.past.topology.stages.find(stage);
+    are_handled(machine.flow.alloc, spec, 0, messages.as_slice(), replies)
 }
 
 /// Whether the supervisor's child in the slot may end so.
 pub(crate) fn may_end_child(
-    alloc: Global,
     machine: &Machine<'_>,
     stage: StageNo,
     slot: u16,
@@ -117,8 +111,8 @@ pub(crate) fn may_end_child(
     requires { MachineStands machine.now }
     ensures { IfOk result (λ may. may ≡ may_come (topology_of machine.now) (history_of machine.now) (Step.ChildEnd stage slot reply.now)) }
 {
-    let answered = answers_child(alloc, machine, stage, slot, from_ref(reply))?;
-    let current = is_current(machine.past.steps, stage, slot)?;
-    let supervises = is_supervisor(machine.past.topology, stage);
-    Ok(machine.past.is_live(stage) && (supervises && (current && answered)))
+    let answered = answers_child(machine, stage, slot, from_ref(reply))?;
+    let current = is_current(machine.flow.past.steps, stage, slot)?;
+    let supervises = is_supervisor(machine.flow.past.topology, stage);
+    Ok(machine.flow.past.is_live(stage) && (supervises && (current && answered)))
 }

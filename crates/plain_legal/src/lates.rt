@@ -15,14 +15,14 @@ use plain_counts::{
     out_from,
 };
 use plain_rows::are_records;
-use std::alloc::{AllocError, Global};
+use std::alloc::AllocError;
 
 /// Whether a late fetch may bring these records.
 fn fits_records(machine: &Machine<'_>, stage: StageNo, records: &[Bytes]) -> bool
     ensures { result ≡ late_fits_in (topology_of machine.now) (history_of machine.now) stage (LateAnswer.Records records.now) }
 {
-    let most = fetch_out(machine.past.steps, stage);
-    is_producer(machine.past.topology, stage) && are_records(records, most)
+    let most = fetch_out(machine.flow.past.steps, stage);
+    is_producer(machine.flow.past.topology, stage) && are_records(records, most)
 }
 
 /// Whether a source may end late so.
@@ -31,13 +31,12 @@ fn fits_end(machine: &Machine<'_>, stage: StageNo, how: SourceHow) -> bool
 {
     match how {
         SourceHow::Limit => false,
-        _ => is_producer(machine.past.topology, stage),
+        _ => is_producer(machine.flow.past.topology, stage),
     }
 }
 
 /// Whether a batch may be answered late so, with so many bytes written.
 fn fits_batch(
-    alloc: Global,
     machine: &Machine<'_>,
     stage: StageNo,
     bytes: u64,
@@ -46,26 +45,21 @@ fn fits_batch(
     requires { MachineStands machine.now }
     ensures { IfOk result (λ fits. fits ≡ late_fits_in (topology_of machine.now) (history_of machine.now) stage (LateAnswer.Wrote bytes end.now)) }
 {
-    let ended = ends_batch(alloc, machine, stage, bytes, end)?;
-    Ok(is_batch_processor(machine.past.topology, stage) && ended)
+    let ended = ends_batch(machine, stage, bytes, end)?;
+    Ok(is_batch_processor(machine.flow.past.topology, stage) && ended)
 }
 
 /// Whether the answer has the form that the job of the killed stage has.
-fn late_fits(
-    alloc: Global,
-    machine: &Machine<'_>,
-    stage: StageNo,
-    answer: &LateAnswer,
-) -> Result<bool, AllocError>
+fn late_fits(machine: &Machine<'_>, stage: StageNo, answer: &LateAnswer) -> Result<bool, AllocError>
     requires { MachineStands machine.now }
     ensures { IfOk result (λ fits. fits ≡ late_fits_in (topology_of machine.now) (history_of machine.now) stage answer.now) }
 {
-    let topology = machine.past.topology;
+    let topology = machine.flow.past.topology;
     match answer {
         LateAnswer::Records(records) => Ok(fits_records(machine, stage, records.as_slice())),
         LateAnswer::Quiet => Ok(is_producer(topology, stage)),
         LateAnswer::Source(how) => Ok(fits_end(machine, stage, *how)),
-        LateAnswer::Wrote(bytes, end) => fits_batch(alloc, machine, stage, *bytes, end),
+        LateAnswer::Wrote(bytes, end) => fits_batch(machine, stage, *bytes, end),
         LateAnswer::Nothing => Ok(is_processor(topology, stage) || is_supervisor(topology, stage)),
     }
 }
@@ -75,13 +69,12 @@ fn was_killed(machine: &Machine<'_>, stage: StageNo, number: u32) -> Result<bool
     requires { MachineStands machine.now }
     ensures { IfOk result (λ killed. killed ≡ not (is_live_in (topology_of machine.now) (history_of machine.now) stage && incarnation_in (history_of machine.now) stage == number)) }
 {
-    let present = incarnation(machine.past.steps, stage)?;
-    Ok(!(machine.past.is_live(stage) && present == u64::from(number)))
+    let present = incarnation(machine.flow.past.steps, stage)?;
+    Ok(!(machine.flow.past.is_live(stage) && present == u64::from(number)))
 }
 
 /// Whether the post is out from that incarnation, which was killed, and may be answered so.
 pub(crate) fn may_be_late(
-    alloc: Global,
     machine: &Machine<'_>,
     stage: StageNo,
     slot: u16,
@@ -92,8 +85,8 @@ pub(crate) fn may_be_late(
     ensures { IfOk result (λ may. may ≡ may_be_late_in (topology_of machine.now) (history_of machine.now) stage slot number answer.now) }
 {
     let at = Post { stage, slot };
-    let fits = late_fits(alloc, machine, stage, answer)?;
+    let fits = late_fits(machine, stage, answer)?;
     let killed = was_killed(machine, stage, number)?;
-    let from = out_from(machine.past.steps, at)?;
-    Ok(is_out(machine.past.steps, at) && (from == u64::from(number) && (killed && fits)))
+    let from = out_from(machine.flow.past.steps, at)?;
+    Ok(is_out(machine.flow.past.steps, at) && (from == u64::from(number) && (killed && fits)))
 }

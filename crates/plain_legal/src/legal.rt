@@ -9,7 +9,7 @@ use crate::owed::{last_owes, passes};
 use crate::rows::may_come;
 use pipe_types::step::Step;
 use plain_counts::has_halted;
-use std::alloc::{AllocError, Global};
+use std::alloc::AllocError;
 
 fn is_late(step: &Step) -> bool
     ensures { result ≡ is_late_in step.now }
@@ -22,12 +22,12 @@ fn is_late(step: &Step) -> bool
 
 /// Whether the step may come next: behind a halt only a late answer, the owed step where one is owed, and else any
 /// step that its row lets come.
-pub fn allows(alloc: Global, machine: &Machine<'_>, step: &Step) -> Result<bool, AllocError>
+pub fn allows(machine: &Machine<'_>, step: &Step) -> Result<bool, AllocError>
     requires { MachineStands machine.now }
     ensures { IfOk result (λ may. may ≡ allows_in (topology_of machine.now) (history_of machine.now) step.now) }
 {
-    let may = may_come(alloc, machine, step)?;
-    let owed = last_owes(alloc, machine)?;
-    let halted = has_halted(machine.past.steps);
+    let may = may_come(machine, step)?;
+    let owed = last_owes(machine)?;
+    let halted = has_halted(machine.flow.past.steps);
     Ok((!halted || is_late(step)) && passes(owed, step, may))
 }

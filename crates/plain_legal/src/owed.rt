@@ -11,7 +11,7 @@ use pipe_types::numbers::StageNo;
 use pipe_types::step::Step;
 use plain_counts::has_crash;
 use plain_places::may_dispatch_now;
-use std::alloc::{AllocError, Global};
+use std::alloc::AllocError;
 
 /// What the last step owes: nothing, a dispatch of the stage that accepted, or a kill of the stage that crashed.
 #[derive(Clone, Copy)]
@@ -43,11 +43,11 @@ fn is_crash_of(step: &Step, stage: StageNo) -> bool
 }
 
 /// What an accept owes: a dispatch of its stage, where that sends or loses something.
-fn owed_by_accept(alloc: Global, machine: &Machine<'_>, stage: StageNo) -> Result<Owed, AllocError>
+fn owed_by_accept(machine: &Machine<'_>, stage: StageNo) -> Result<Owed, AllocError>
     requires { MachineStands machine.now }
     ensures { IfOk result (λ owed. test_of owed ≡ (if may_dispatch_in (topology_of machine.now) (history_of machine.now) stage then Some (is_dispatch_of_in stage) else None)) }
 {
-    if may_dispatch_now(alloc, &machine.past, machine.tables, stage)? {
+    if may_dispatch_now(&machine.flow, stage)? {
         Ok(Owed::DispatchOf(stage))
     } else {
         Ok(Owed::Nothing)
@@ -55,18 +55,13 @@ fn owed_by_accept(alloc: Global, machine: &Machine<'_>, stage: StageNo) -> Resul
 }
 
 /// What the newest step of the machine owes.
-fn owed_by(
-    alloc: Global,
-    machine: &Machine<'_>,
-    last: &Step,
-    before: &[Step],
-) -> Result<Owed, AllocError>
+fn owed_by(machine: &Machine<'_>, last: &Step, before: &[Step]) -> Result<Owed, AllocError>
     requires stands { MachineStands machine.now }
     requires newest { history_of machine.now ≡ last.now ∷ history before.now }
     ensures { IfOk result (λ owed. test_of owed ≡ owed_in (topology_of machine.now) (last.now ∷ history before.now)) }
 {
     match last {
-        Step::Accept { stage, .. } => owed_by_accept(alloc, machine, *stage),
+        Step::Accept { stage, .. } => owed_by_accept(machine, *stage),
         Step::Done { stage, replies } => {
             if has_crash(replies.as_slice()) {
                 Ok(Owed::CrashOf(*stage))
@@ -84,12 +79,12 @@ fn owed_by(
 }
 
 /// The step that is owed.
-pub(crate) fn last_owes(alloc: Global, machine: &Machine<'_>) -> Result<Owed, AllocError>
+pub(crate) fn last_owes(machine: &Machine<'_>) -> Result<Owed, AllocError>
     requires { MachineStands machine.now }
     ensures { IfOk result (λ owed. test_of owed ≡ owed_in (topology_of machine.now) (history_of machine.now)) }
 {
-    match machine.past.steps.split_last() {
-        Some((last, before)) => owed_by(alloc, machine, last, before),
+    match machine.flow.past.steps.split_last() {
+        Some((last, before)) => owed_by(machine, last, before),
         None => Ok(Owed::Nothing),
     }
 }

@@ -3,7 +3,7 @@ use Rattle.std.proofs.Common.{◌≡◌, ℕ, ◌+◌, ◌-◌, Bool, true, fals
 use Rattle.std.proofs.lemmas.List.{append-nil, length-append, length-map}
 use Rattle.std.proofs.lemmas.Option.{slice_get-map}
 use Rattle.std.proofs.Math.ListN.{length-replicate}
-use Rattle.std.specs.Prelude.{if◌then◌else◌, ◌==◌, nat_lt, option_map, slice_get}
+use Rattle.std.specs.Prelude.{if◌then◌else◌, ◌==◌, nat_lt}
 use Rattle.pipe_types.specs.declared.numbers.StageNo.{StageNo}
 use Rattle.pipe_types.specs.declared.numbers.SubNo.{SubNo}
 use Rattle.pipe_types.specs.declared.topology.Topology.{Topology}
@@ -12,7 +12,7 @@ use Rattle.pipe_types.specs.declared.step.Step.{Step}
 use Rattle.pipe_types.specs.declared.step.Step.TheVariants.{Dispatch}
 use Rattle.pipe_model.specs.History.{History, accepted, closed}
 use Rattle.pipe_model.specs.Batches as model
-use Rattle.pipe_model.specs.Flow.{view_of, count_on, delivered_to, place_after, batch_after, sent_after, sent_to_after, sends_by, new_batch, accepted_to, place, batch, sent, sent_to}
+use Rattle.pipe_model.specs.Flow.{count_on, delivered_to, place_after, batch_after, sent_after, sent_to_after, sends_by, new_batch, accepted_to, place, batch, sent, sent_to}
 use Rattle.pipe_laws.proofs.Demand.{count_on-append}
 use Rattle.queue_laws.proofs.Delivered.{delivered-append}
 use Rattle.plain_queues.specs.declared.tables.BatchRow.{BatchRow}

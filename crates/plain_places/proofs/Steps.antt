@@ -1,5 +1,5 @@
 -- What a step does to one place and to one batch is what its change does.
-use Rattle.std.proofs.Common.{◌≡◌, ℕ, Bool, true, false, List, Option, Some, None, refl, ap, sym, ◌∙◌}
+use Rattle.std.proofs.Common.{◌≡◌, ℕ, Bool, true, false, Option, Some, None, refl, ap, sym}
 use Rattle.std.specs.Prelude.{if◌then◌else◌, ◌==◌, ◌&&◌, option_map}
 use Rattle.std.proofs.lemmas.Bool.{eqb-true}
 use Rattle.pipe_types.specs.declared.numbers.StageNo.{StageNo}
@@ -18,7 +18,7 @@ use Rattle.pipe_model.specs.Posts.{in_slot, crashes}
 use Rattle.pipe_model.specs.Content.{has_crash}
 use Rattle.pipe_model.specs.Batches as model
 use Rattle.pipe_model.specs.Flow.{View, place_after, batch_after, child_ended, child_place, runs_again, done, has_batchers_in, chunk_by, among, next_units, change_place}
-use Rattle.plain_places.specs.Moves.{PlaceMove, Kept, Answered, Moved, again_in, moved_by, place_change, place_changed, count_changed, batch_change, batch_changed, closed_changed}
+use Rattle.plain_places.specs.Moves.{Kept, Answered, again_in, moved_by, place_change, place_changed, count_changed, batch_change, batch_changed, closed_changed}
 
 kept : (o : Option Place) → o ≡ option_map (λ p. p) o
 kept None = refl

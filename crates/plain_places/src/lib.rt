@@ -11,7 +11,7 @@ mod queues;
 mod tables;
 
 pub use queues::{
-    chunk_now, deliveries_now, inbox_now, lost_over_now, may_dispatch_now, open_batch_now,
+    chunk_now, closing_now, deliveries_now, inbox_now, lost_over_now, may_dispatch_now,
     open_demand_now, place_now, room_now, waiting_now,
 };
 pub use tables::{no_tables, tables_after};

@@ -2,7 +2,7 @@
 
 ghost use Rattle.std.specs.Prelude.{◌≡◌, IfOk, option_copied};
 ghost use Rattle.pipe_model.specs.{History.{history, incarnation as incarnation_in}, Lives.{reason_in}};
-ghost use Rattle.pipe_model.specs.Flow.{among as among_in, subs_of, waiting_after as waiting_after_in, dispatched as dispatched_in, taken as taken_in, answered as answered_in, reply_to as reply_to_in, done as done_in, gathered as gathered_in, put_in_batch as put_in_batch_in, lost_with as lost_with_in, killed as killed_in, child_place as child_place_in, is_number as is_number_in, child_ended as child_ended_in};
+ghost use Rattle.pipe_model.specs.Flow.{among as among_in, subs_of, waiting_after as waiting_after_in, dispatched as dispatched_in, taken as taken_in, answered as answered_in, reply_to as reply_to_in, done as done_in, gathered as gathered_in, put_in_batch as put_in_batch_in, lost_with as lost_with_in, killed as killed_in, child_place as child_place_in, child_ended as child_ended_in};
 ghost use Rattle.plain_places.specs.{Moves.{moved_by}, Changes.{move_of}};
 
 use pipe_types::message::{Loss, Outcome, Place, Reply, Why};
@@ -12,7 +12,7 @@ use pipe_types::step::Step;
 use plain_batches::by_batch;
 use plain_counts::{incarnation, unit_no};
 use plain_lives::{Death, reason};
-use plain_queues::BatchRow;
+use plain_queues::{BatchRow, is_number};
 use std::alloc::AllocError;
 
 /// Where a step moves the messages that stand somewhere: what is sent of a stage, what it loses and
@@ -203,15 +203,6 @@ fn child_place(again: bool, stage: StageNo, from: u32, reply: &Reply) -> Place
                 Place::Lost(Loss::Killed(stage, from, Why::Crash))
             }
         }
-    }
-}
-
-fn is_number(number: Option<u32>, n: u32) -> bool
-    ensures { result ≡ is_number_in number n }
-{
-    match number {
-        Some(m) => m == n,
-        None => false,
     }
 }
 

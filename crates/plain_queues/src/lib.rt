@@ -4,8 +4,13 @@
 //! by `view_in`, as `pipe_model` sees a history: each function here says its definition there, of that view.
 #![tactic(auto)]
 
+mod flow;
 mod queues;
 mod tables;
 
-pub use queues::{chunk, has_key, inbox, is_batcher_stage, open_batch, units_on, waiting};
+pub use flow::Flow;
+pub use queues::{
+    chunk, closing, inbox, is_batcher_stage, is_number, key_of, next_units, open_batch, units_on,
+    waiting,
+};
 pub use tables::{BatchPlace, BatchRow, Leg, LegPlace, Tables, batch_row, place_of, sent_on};

@@ -5,6 +5,7 @@ ghost use Rattle.pipe_types.specs.{Numbers.{post as post_in}, Lines.{max_bytes}}
 ghost use Rattle.pipe_model.specs.{History.{history, accepted as accepted_in, accepted_bytes as accepted_bytes_in, controls as controls_in}, Posts.{is_out as is_out_in}};
 ghost use Rattle.pipe_model.specs.Legal.{may_come, has_ended as has_ended_in, rests as rests_in, happened, is_drain, fetches_out as fetches_out_in, pull_bound as pull_bound_in, bound as bound_in, are_records as are_records_in, is_limit as is_limit_in, same_truth, may_end as may_end_in};
 ghost use Rattle.plain_lives.specs.Lives.{LivesStand};
+ghost use Rattle.plain_queues.specs.Flows.{topology_of, history_of};
 ghost use Rattle.plain_places.specs.Standing.{TablesStand};
 
 use pipe_types::bytes::Bytes;
@@ -17,8 +18,8 @@ use plain_counts::{
 };
 use plain_lives::Past;
 use plain_places::{room_now, waiting_now};
-use plain_queues::Tables;
-use std::alloc::{AllocError, Global};
+use plain_queues::Flow;
+use std::alloc::AllocError;
 
 /// The most bytes of a record.
 const MAX_BYTES: usize = 65536;
@@ -59,34 +60,28 @@ fn records_left(past: &Past<'_>) -> Result<u64, AllocError>
 }
 
 /// A pull producer brings no more than was asked for and does not wait in it yet.
-fn pull_bound(
-    alloc: Global,
-    past: &Past<'_>,
-    tables: &Tables,
-    spec: &StageSpec,
-    records: u64,
-) -> Result<u64, AllocError>
-    requires lives { LivesStand past.now.topology.now (history past.now.steps.now) past.now.lives.now }
-    requires tables { TablesStand past.now.topology.now (history past.now.steps.now) tables.now }
-    ensures { IfOk result (λ n. n ≡ pull_bound_in past.now.topology.now (history past.now.steps.now) (Some spec.now) records) }
+fn pull_bound(flow: &Flow<'_>, spec: &StageSpec, records: u64) -> Result<u64, AllocError>
+    requires lives { LivesStand (topology_of flow.now) (history_of flow.now) flow.now.past.lives.now }
+    requires tables { TablesStand (topology_of flow.now) (history_of flow.now) flow.now.tables.now }
+    ensures { IfOk result (λ n. n ≡ pull_bound_in (topology_of flow.now) (history_of flow.now) (Some spec.now) records) }
 {
     if spec.push {
         return Ok(records);
     }
-    let room = room_now(alloc, past, tables, spec.no)?;
-    let waits = waiting_now(alloc, past, tables, spec.no)?;
+    let room = room_now(flow, spec.no)?;
+    let waits = waiting_now(flow, spec.no)?;
     Ok(records.min(room.saturating_sub(waits.len() as u64)))
 }
 
 /// How many records a fetch of the producer may bring.
-fn bound(alloc: Global, past: &Past<'_>, tables: &Tables, stage: StageNo) -> Result<u64, AllocError>
-    requires lives { LivesStand past.now.topology.now (history past.now.steps.now) past.now.lives.now }
-    requires tables { TablesStand past.now.topology.now (history past.now.steps.now) tables.now }
-    ensures { IfOk result (λ n. n ≡ bound_in past.now.topology.now (history past.now.steps.now) stage) }
+fn bound(flow: &Flow<'_>, stage: StageNo) -> Result<u64, AllocError>
+    requires lives { LivesStand (topology_of flow.now) (history_of flow.now) flow.now.past.lives.now }
+    requires tables { TablesStand (topology_of flow.now) (history_of flow.now) flow.now.tables.now }
+    ensures { IfOk result (λ n. n ≡ bound_in (topology_of flow.now) (history_of flow.now) stage) }
 {
-    let records = records_left(past)?;
-    match past.topology.stages.find(stage) {
-        Some(spec) => pull_bound(alloc, past, tables, spec, records),
+    let records = records_left(&flow.past)?;
+    match flow.past.topology.stages.find(stage) {
+        Some(spec) => pull_bound(flow, spec, records),
         None => Ok(records),
     }
 }
@@ -103,38 +98,26 @@ fn is_free(past: &Past<'_>, stage: StageNo) -> bool
 }
 
 /// Whether a fetch of so many records is within the limits.
-fn is_bounded(
-    alloc: Global,
-    past: &Past<'_>,
-    tables: &Tables,
-    stage: StageNo,
-    n: u32,
-) -> Result<bool, AllocError>
-    requires lives { LivesStand past.now.topology.now (history past.now.steps.now) past.now.lives.now }
-    requires tables { TablesStand past.now.topology.now (history past.now.steps.now) tables.now }
-    ensures { IfOk result (λ is. is ≡ (nat_lt (accepted_bytes_in (history past.now.steps.now)) past.now.topology.now.byte_limit
-        && (nat_le 1 n && n == bound_in past.now.topology.now (history past.now.steps.now) stage))) }
+fn is_bounded(flow: &Flow<'_>, stage: StageNo, n: u32) -> Result<bool, AllocError>
+    requires lives { LivesStand (topology_of flow.now) (history_of flow.now) flow.now.past.lives.now }
+    requires tables { TablesStand (topology_of flow.now) (history_of flow.now) flow.now.tables.now }
+    ensures { IfOk result (λ is. is ≡ (nat_lt (accepted_bytes_in (history_of flow.now)) (topology_of flow.now).byte_limit
+        && (nat_le 1 n && n == bound_in (topology_of flow.now) (history_of flow.now) stage))) }
 {
-    let bytes = accepted_bytes(past.steps)?;
-    let most = bound(alloc, past, tables, stage)?;
-    Ok(bytes < past.topology.byte_limit && (1 <= n && u64::from(n) == most))
+    let bytes = accepted_bytes(flow.past.steps)?;
+    let most = bound(flow, stage)?;
+    Ok(bytes < flow.past.topology.byte_limit && (1 <= n && u64::from(n) == most))
 }
 
 /// Whether the producer may fetch `n` records.
-pub fn may_fetch(
-    alloc: Global,
-    past: &Past<'_>,
-    tables: &Tables,
-    stage: StageNo,
-    n: u32,
-) -> Result<bool, AllocError>
-    requires lives { LivesStand past.now.topology.now (history past.now.steps.now) past.now.lives.now }
-    requires tables { TablesStand past.now.topology.now (history past.now.steps.now) tables.now }
-    ensures { IfOk result (λ may. may ≡ may_come past.now.topology.now (history past.now.steps.now) (Step.Fetch stage n)) }
+pub fn may_fetch(flow: &Flow<'_>, stage: StageNo, n: u32) -> Result<bool, AllocError>
+    requires lives { LivesStand (topology_of flow.now) (history_of flow.now) flow.now.past.lives.now }
+    requires tables { TablesStand (topology_of flow.now) (history_of flow.now) flow.now.tables.now }
+    ensures { IfOk result (λ may. may ≡ may_come (topology_of flow.now) (history_of flow.now) (Step.Fetch stage n)) }
 {
-    let bounded = is_bounded(alloc, past, tables, stage, n)?;
-    let live = past.is_live(stage) && is_producer(past.topology, stage);
-    Ok(live && (is_free(past, stage) && bounded))
+    let bounded = is_bounded(flow, stage, n)?;
+    let live = flow.past.is_live(stage) && is_producer(flow.past.topology, stage);
+    Ok(live && (is_free(&flow.past, stage) && bounded))
 }
 
 /// Whether the producer's fetch may bring these records.

@@ -2,9 +2,10 @@
 
 ghost use Rattle.std.specs.Prelude.{◌≡◌, ◌&&◌, ◌==◌, IfOk};
 ghost use Rattle.pipe_types.specs.Stages.{spec_of};
-ghost use Rattle.pipe_model.specs.{History.{history}, Content.{content as content_in, flush_in}, Flow.{view_of, inbox as inbox_in, closing as closing_in}};
+ghost use Rattle.pipe_model.specs.{History.{history}, Content.{content as content_in, flush_in}, Flow.{inbox as inbox_in}};
 ghost use Rattle.pipe_model.specs.Legal.{last_in, ends_in_flush as ends_in_flush_in, batch_size_in, first_unit as first_unit_in, lets_in as lets_in_model, may_gather as may_gather_in};
 ghost use Rattle.plain_lives.specs.Lives.{LivesStand};
+ghost use Rattle.plain_queues.specs.Flows.{topology_of, history_of};
 ghost use Rattle.plain_places.specs.Standing.{TablesStand};
 
 use crate::takes::{first_unit, has_room};
@@ -13,32 +14,9 @@ use pipe_types::step::Step;
 use pipe_types::topology::Topology;
 use plain_counts::{Seen, content, is_batcher};
 use plain_lives::Past;
-use plain_places::{inbox_now, open_batch_now};
-use plain_queues::Tables;
-use std::alloc::{AllocError, Global};
-
-/// The messages that the batcher has gathered under the key of message `n`, in order.
-pub(crate) fn closing(
-    alloc: Global,
-    past: &Past<'_>,
-    tables: &Tables,
-    stage: StageNo,
-    n: u32,
-) -> Result<Vec<u32>, AllocError>
-    requires { TablesStand past.now.topology.now (history past.now.steps.now) tables.now }
-    ensures { IfOk result (λ units. units.items ≡ closing_in (history past.now.steps.now) (view_of past.now.topology.now (history past.now.steps.now)) stage n) }
-{
-    let none: [u8; 0] = [];
-    match content(past.steps, n)? {
-        Some(Seen::Passed(message)) => {
-            open_batch_now(alloc, past, tables, stage, message.key.as_slice())
-        }
-        Some(Seen::Accepted(_, _, _)) => {
-            open_batch_now(alloc, past, tables, stage, none.as_slice())
-        }
-        None => open_batch_now(alloc, past, tables, stage, none.as_slice()),
-    }
-}
+use plain_places::{closing_now, inbox_now};
+use plain_queues::Flow;
+use std::alloc::AllocError;
 
 /// Whether the message has flush mode.
 fn flushes(steps: &[Step], n: u32) -> Result<bool, AllocError>
@@ -92,36 +70,24 @@ fn lets_in(past: &Past<'_>, stage: StageNo, numbers: &[u32]) -> Result<bool, All
 }
 
 /// Whether the message is the first in the stage's inbox.
-pub(crate) fn is_next(
-    alloc: Global,
-    past: &Past<'_>,
-    tables: &Tables,
-    stage: StageNo,
-    n: u32,
-) -> Result<bool, AllocError>
-    requires { TablesStand past.now.topology.now (history past.now.steps.now) tables.now }
-    ensures { IfOk result (λ is. is ≡ (n == first_unit_in (inbox_in past.now.topology.now (history past.now.steps.now) stage))) }
+pub(crate) fn is_next(flow: &Flow<'_>, stage: StageNo, n: u32) -> Result<bool, AllocError>
+    requires { TablesStand (topology_of flow.now) (history_of flow.now) flow.now.tables.now }
+    ensures { IfOk result (λ is. is ≡ (n == first_unit_in (inbox_in (topology_of flow.now) (history_of flow.now) stage))) }
 {
-    let units = inbox_now(alloc, past, tables, stage)?;
+    let units = inbox_now(flow, stage)?;
     Ok(n == first_unit(units.as_slice()))
 }
 
 /// Whether the batcher may gather the message.
-pub fn may_gather(
-    alloc: Global,
-    past: &Past<'_>,
-    tables: &Tables,
-    stage: StageNo,
-    n: u32,
-) -> Result<bool, AllocError>
-    requires lives { LivesStand past.now.topology.now (history past.now.steps.now) past.now.lives.now }
-    requires tables { TablesStand past.now.topology.now (history past.now.steps.now) tables.now }
-    ensures { IfOk result (λ may. may ≡ may_gather_in past.now.topology.now (history past.now.steps.now) stage n) }
+pub fn may_gather(flow: &Flow<'_>, stage: StageNo, n: u32) -> Result<bool, AllocError>
+    requires lives { LivesStand (topology_of flow.now) (history_of flow.now) flow.now.past.lives.now }
+    requires tables { TablesStand (topology_of flow.now) (history_of flow.now) flow.now.tables.now }
+    ensures { IfOk result (λ may. may ≡ may_gather_in (topology_of flow.now) (history_of flow.now) stage n) }
 {
-    let next = is_next(alloc, past, tables, stage, n)?;
-    let room = has_room(alloc, past, tables, stage)?;
-    let open = closing(alloc, past, tables, stage, n)?;
-    let lets = lets_in(past, stage, open.as_slice())?;
-    let live = past.is_live(stage) && is_batcher(past.topology, stage);
+    let next = is_next(flow, stage, n)?;
+    let room = has_room(flow, stage)?;
+    let open = closing_now(flow, stage, n)?;
+    let lets = lets_in(&flow.past, stage, open.as_slice())?;
+    let live = flow.past.is_live(stage) && is_batcher(flow.past.topology, stage);
     Ok(live && (1 <= n && (next && (room && lets))))
 }

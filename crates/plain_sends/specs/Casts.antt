@@ -1,7 +1,7 @@
 -- Batches that are judged by their own numbers.
 use Rattle.std.specs.Prelude.{ℕ, Bool, true, false, List, map}
 use Rattle.pipe_types.specs.declared.topology.Dispatch.{Dispatch}
-use Rattle.pipe_types.specs.declared.topology.Dispatch.TheVariants.{Demand, Broadcast, Partition}
+use Rattle.pipe_types.specs.declared.topology.Dispatch.TheVariants.{Broadcast}
 
 abbrev pub is_cast : Dispatch → Bool
 is_cast Broadcast = true

@@ -3,13 +3,13 @@
 ghost use Rattle.std.specs.{Prelude.{◌≡◌, IfOk, position, option_copied, Some}, List.{before_first, after_first}};
 ghost use Rattle.pipe_types.specs.{Handlers.{is_space, field as field_in}, Dispatchers.{partition_of as partition_of_in}};
 ghost use Rattle.pipe_model.specs.{History.{history}, Content.{content as content_in, key_in, batcher_in, payload_in}, Flow.{first_in, numbers_in, partition_in}};
-ghost use Rattle.plain_queues.specs.Views.{batch_at, view_in};
+ghost use Rattle.plain_queues.specs.{Flows.{history_of}, Views.{batch_at, view_in}};
 
 use pipe_types::step::Step;
 use pipe_types::topology::{Role, StageSpec};
 use plain_counts::{Seen, content, unit_no};
 use plain_dispatch::partition_of;
-use plain_queues::{Tables, batch_row};
+use plain_queues::{Flow, Tables, batch_row, key_of};
 use std::alloc::AllocError;
 
 fn space_at(bytes: &[u8]) -> Option<usize>
@@ -68,12 +68,8 @@ fn part_by_field(steps: &[Step], n: u32, at: u16, parts: u32) -> Result<u64, All
 fn part_by_key(steps: &[Step], n: u32, parts: u32) -> Result<u64, AllocError>
     ensures { IfOk result (λ part. part ≡ partition_of_in (key_in (content_in (history steps.now) n)) parts) }
 {
-    let none: [u8; 0] = [];
-    match content(steps, n)? {
-        Some(Seen::Passed(message)) => Ok(partition_of(message.key.as_slice(), parts)),
-        Some(Seen::Accepted(_, _, _)) => Ok(partition_of(none.as_slice(), parts)),
-        None => Ok(partition_of(none.as_slice(), parts)),
-    }
+    let key = key_of(steps, n)?;
+    Ok(partition_of(key, parts))
 }
 
 /// The batcher that the message names.
@@ -107,32 +103,22 @@ pub(crate) fn first_of_batch(tables: &Tables, n: u32) -> u32
     }
 }
 
-fn part_by_role(
-    steps: &[Step],
-    tables: &Tables,
-    spec: &StageSpec,
-    n: u32,
-) -> Result<u64, AllocError>
-    ensures { IfOk result (λ part. part ≡ partition_in (history steps.now) (view_in tables.now) (Some spec.now) n) }
+fn part_by_role(flow: &Flow<'_>, spec: &StageSpec, n: u32) -> Result<u64, AllocError>
+    ensures { IfOk result (λ part. part ≡ partition_in (history_of flow.now) (view_in flow.now.tables.now) (Some spec.now) n) }
 {
     match spec.role {
-        Role::Producer => part_by_field(steps, n, spec.field, spec.parts),
-        Role::Batcher => part_by_key(steps, first_of_batch(tables, n), spec.parts),
-        _ => batcher_of(steps, n),
+        Role::Producer => part_by_field(flow.past.steps, n, spec.field, spec.parts),
+        Role::Batcher => part_by_key(flow.past.steps, first_of_batch(flow.tables, n), spec.parts),
+        _ => batcher_of(flow.past.steps, n),
     }
 }
 
 /// The partition of a waiting unit: by a field for a producer, the batcher for a processor, the key for a batcher.
-pub fn partition(
-    steps: &[Step],
-    tables: &Tables,
-    spec: Option<&StageSpec>,
-    n: u32,
-) -> Result<u32, AllocError>
-    ensures { IfOk result (λ part. part ≡ partition_in (history steps.now) (view_in tables.now) (option_copied spec.entry) n) }
+pub fn partition(flow: &Flow<'_>, spec: Option<&StageSpec>, n: u32) -> Result<u32, AllocError>
+    ensures { IfOk result (λ part. part ≡ partition_in (history_of flow.now) (view_in flow.now.tables.now) (option_copied spec.entry) n) }
 {
     match spec {
-        Some(spec) => unit_no(part_by_role(steps, tables, spec, n)?),
+        Some(spec) => unit_no(part_by_role(flow, spec, n)?),
         None => Ok(0),
     }
 }

@@ -1,7 +1,7 @@
 -- What one more step adds to what was taken, counted and handled.
 use Rattle.std.proofs.Common.{◌≡◌, ℕ, ◌+◌, List, [], ◌∷◌, length, take, ap, sym, ◌∙◌, refl, arith}
 use Rattle.std.proofs.lemmas.Bool.Decides.{nat_tests}
-use Rattle.std.specs.Prelude.{Bool, true, false, if◌then◌else◌, ◌&&◌, ◌||◌, Option, Some, None}
+use Rattle.std.specs.Prelude.{Bool, true, false, if◌then◌else◌, ◌&&◌, ◌||◌, Option, Some, None, option_map}
 use Rattle.pipe_types.specs.declared.numbers.StageNo.{StageNo}
 use Rattle.pipe_types.specs.declared.numbers.SubNo.{SubNo}
 use Rattle.pipe_types.specs.declared.topology.Topology.{Topology}
@@ -22,8 +22,11 @@ use Rattle.pipe_model.specs.Flow.{place, sent_to, inbox, units_on, is_number, ru
 use Rattle.pipe_model.specs.Ledger.{handled, handled_after, taken_on, came_on, crashed_reply, crashes_of}
 use Rattle.pipe_model.specs.Work.{taken_units, count, batch_of}
 use Rattle.pipe_laws.proofs.Tests.{same_stage-true, same_stage-self}
+use Rattle.plain_works.specs.declared.works.TakeRow.{TakeRow}
+use Rattle.plain_works.specs.declared.works.CountRow.{CountRow}
+use Rattle.plain_works.specs.declared.works.HandledRow.{HandledRow}
 use Rattle.plain_works.specs.declared.works.Works.{Works}
-use Rattle.plain_works.specs.Works.{units_by, count_by, is_on, handled_by, WorksStand, step_takes, with_taken, after_batch, step_counts, with_count, of_take, of_inbox, subs_for, step_handles, with_handled}
+use Rattle.plain_works.specs.Works.{units_by, count_by, is_on, handled_by, WorksStand, led_by, taken_of, handling_of, step_takes, with_taken, after_batch, step_counts, with_count, of_take, of_inbox, subs_for, step_handles, with_handled}
 
 -- Taken
 
@@ -119,6 +122,19 @@ handled_more topology before (ChildEnd s slot reply) u old =
     by true is = refl
     by false is = ap (λ c. if c then old + 1 else old) is
 handled_more topology before _ u old = refl
+
+-- what one more row changes
+pub takes_led : (row : Option TakeRow) (rows : List TakeRow) (s : StageNo) → units_by (led_by row rows) s ≡ with_taken (option_map taken_of row) s (units_by rows s)
+takes_led None rows s = refl
+takes_led (Some row) rows s = refl
+
+pub counts_led : (row : Option CountRow) (rows : List CountRow) (s : StageNo) → count_by (led_by row rows) s ≡ with_count row s (count_by rows s)
+counts_led None rows s = refl
+counts_led (Some row) rows s = refl
+
+pub handled_led : (row : Option HandledRow) (rows : List HandledRow) (u : SubNo) → handled_by (led_by row rows) u ≡ with_handled (option_map handling_of row) u (handled_by rows u)
+handled_led None rows u = refl
+handled_led (Some row) rows u = refl
 
 -- the works after one more step
 pub stand_next : (topology : Topology) (before : History) (step : Step) (works after : Works)

@@ -58,6 +58,11 @@ pub record WorksStand (topology : Topology) (before : History) (works : Works) :
 
 -- What a step adds
 
+-- the rows, and in front of them one more, where there is one
+abbrev pub led_by : {A : Type 0} → Option A → List A → List A
+led_by None rows = rows
+led_by (Some row) rows = row ∷ rows
+
 -- a stage and the units that it takes
 abbrev pub Taken : Type 0
 Taken = StageNo × List ℕ

@@ -1,10 +1,10 @@
 //! How many messages handlers have seen.
 
-ghost use Rattle.std.specs.Prelude.{◌≡◌, ◌∷◌, IfOk};
-ghost use Rattle.pipe_types.specs.{declared.numbers.StageNo.{StageNo as Stage}, Stages.{spec_of}};
+ghost use Rattle.std.specs.Prelude.{◌≡◌, IfOk};
+ghost use Rattle.pipe_types.specs.Stages.{spec_of};
 ghost use Rattle.pipe_model.specs.{History.{history}, Flow.{view_of}, Work.{count as count_in}};
-ghost use Rattle.plain_queues.specs.Views.{view_in};
-ghost use Rattle.plain_works.specs.Works.{count_by, after_batch as after_batch_in, step_counts, with_count as with_count_in, WorksStand};
+ghost use Rattle.plain_queues.specs.{Flows.{topology_of, history_of}, Views.{view_in}};
+ghost use Rattle.plain_works.specs.Works.{count_by, after_batch as after_batch_in, step_counts, WorksStand};
 
 use crate::messages::batch_of;
 use crate::works::{CountRow, Works};
@@ -14,7 +14,7 @@ use pipe_types::step::Step;
 use pipe_types::topology::Topology;
 use plain_handlers::{count_after_batch, counted};
 use plain_lives::Past;
-use plain_queues::Tables;
+use plain_queues::Flow;
 use std::alloc::{AllocError, Global};
 
 fn count_in_rows(counts: &[CountRow], stage: StageNo) -> u64
@@ -54,15 +54,13 @@ fn after_batch(
 
 /// The new count of the stage that the step is of.
 pub(crate) fn count_row(
-    alloc: Global,
-    past: &Past<'_>,
-    tables: &Tables,
+    flow: &Flow<'_>,
     works: &Works,
     step: &Step,
 ) -> Result<Option<CountRow>, AllocError>
-    requires tables { view_in tables.now ≡ view_of past.now.topology.now (history past.now.steps.now) }
-    requires works { WorksStand past.now.topology.now (history past.now.steps.now) works.now }
-    ensures { IfOk result (λ row. row ≡ step_counts past.now.topology.now (history past.now.steps.now) step.now) }
+    requires tables { view_in flow.now.tables.now ≡ view_of (topology_of flow.now) (history_of flow.now) }
+    requires works { WorksStand (topology_of flow.now) (history_of flow.now) works.now }
+    ensures { IfOk result (λ row. row ≡ step_counts (topology_of flow.now) (history_of flow.now) step.now) }
 {
     match step {
         Step::Restart { stage } => Ok(Some(CountRow {
@@ -71,12 +69,18 @@ pub(crate) fn count_row(
         })),
         Step::Done { stage, replies } => Ok(Some(CountRow {
             stage: *stage,
-            count: counted(count(past, works, *stage), replies.as_slice().len()),
+            count: counted(count(&flow.past, works, *stage), replies.as_slice().len()),
         })),
         Step::Wrote { stage, .. } => {
-            let old = count(past, works, *stage);
-            let messages = batch_of(alloc, past, tables, works, *stage)?;
-            let new = after_batch(alloc, past.topology, *stage, old, messages.as_slice())?;
+            let old = count(&flow.past, works, *stage);
+            let messages = batch_of(flow, works, *stage)?;
+            let new = after_batch(
+                flow.alloc,
+                flow.past.topology,
+                *stage,
+                old,
+                messages.as_slice(),
+            )?;
             Ok(Some(CountRow {
                 stage: *stage,
                 count: new,
@@ -84,25 +88,4 @@ pub(crate) fn count_row(
         }
         _ => Ok(None),
     }
-}
-
-/// The rows with one more, where there is one, the newest first.
-pub(crate) fn with_count(
-    counts: Vec<CountRow>,
-    row: Option<CountRow>,
-) -> Result<Vec<CountRow>, AllocError>
-    ensures { IfOk result (λ more. (s : Stage) → count_by more.items s ≡ with_count_in row s (count_by counts.items s)) }
-{
-    match row {
-        Some(row) => push_count(counts, row),
-        None => Ok(counts),
-    }
-}
-
-fn push_count(counts: Vec<CountRow>, row: CountRow) -> Result<Vec<CountRow>, AllocError>
-    ensures { IfOk result (λ more. more.items ≡ row ∷ counts.items) }
-{
-    let mut more = counts;
-    more.insert(0, row)?;
-    Ok(more)
 }

@@ -1,13 +1,13 @@
 //! What was handled on subscriptions, and when an ask is due.
 
 ghost use Rattle.std.specs.Prelude.{◌≡◌, ◌∷◌, [], ◌++◌, ◌&&◌, if◌then◌else◌, IfOk, Some, option_map};
-ghost use Rattle.pipe_types.specs.{declared.numbers.SubNo.{SubNo as Sub}, Stages.{spec_of}};
+ghost use Rattle.pipe_types.specs.Stages.{spec_of};
 ghost use Rattle.pipe_model.specs.{History.{history}, Posts.{in_slot as in_slot_in}};
-ghost use Rattle.pipe_model.specs.Flow.{view_of, place as place_in, sent_to as sent_to_in, delivered_to, is_number as is_number_in, runs_again as runs_again_in};
+ghost use Rattle.pipe_model.specs.Flow.{view_of, place as place_in, sent_to as sent_to_in, delivered_to, runs_again as runs_again_in};
 ghost use Rattle.pipe_model.specs.Ledger.{handled as handled_in, pending as pending_in, due as due_in, max_in, min_in, crashed_reply, crashes_of as crashes_of_in};
 ghost use Rattle.plain_lives.specs.Lives.{LivesStand};
-ghost use Rattle.plain_queues.specs.Views.{view_in};
-ghost use Rattle.plain_works.specs.Works.{is_on as is_on_in, handled_by, handling_of, of_take as of_take_in, of_inbox as of_inbox_in, subs_for as subs_for_in, step_handles, with_handled as with_handled_in, WorksStand};
+ghost use Rattle.plain_queues.specs.{Flows.{topology_of, history_of}, Views.{view_in}};
+ghost use Rattle.plain_works.specs.Works.{is_on as is_on_in, handled_by, handling_of, of_take as of_take_in, of_inbox as of_inbox_in, subs_for as subs_for_in, step_handles, WorksStand};
 
 use crate::children::{crashes_of, is_crash};
 use crate::works::{HandledRow, Works};
@@ -18,7 +18,7 @@ use pipe_types::step::Step;
 use pipe_types::topology::Topology;
 use plain_counts::{asked, has_crash, in_slot, last_take, plus, runs_again, same_sub};
 use plain_lives::Past;
-use plain_queues::{Tables, place_of};
+use plain_queues::{Flow, is_number, place_of};
 use std::alloc::{AllocError, Global};
 
 fn is_on(subs: &[SubNo], sub: SubNo) -> bool
@@ -139,20 +139,11 @@ fn of_inbox(alloc: Global, place: Option<Place>) -> Result<Option<HandledRow>, A
 }
 
 /// Where message `n` stands.
-fn place_now(past: &Past<'_>, tables: &Tables, n: u32) -> Option<Place>
-    requires { view_in tables.now ≡ view_of past.now.topology.now (history past.now.steps.now) }
-    ensures { result ≡ place_in past.now.topology.now (history past.now.steps.now) n }
+fn place_now(flow: &Flow<'_>, n: u32) -> Option<Place>
+    requires { view_in flow.now.tables.now ≡ view_of (topology_of flow.now) (history_of flow.now) }
+    ensures { result ≡ place_in (topology_of flow.now) (history_of flow.now) n }
 {
-    place_of(tables, n)
-}
-
-fn is_number(m: Option<u32>, n: u32) -> bool
-    ensures { result ≡ is_number_in m n }
-{
-    match m {
-        Some(m) => m == n,
-        None => false,
-    }
+    place_of(flow.tables, n)
 }
 
 /// Puts the subscription behind the others where the unit is the message, sent to the consumer.
@@ -187,17 +178,11 @@ fn subs_in(
     Ok(subs)
 }
 
-fn subs_for(
-    alloc: Global,
-    past: &Past<'_>,
-    tables: &Tables,
-    consumer: StageNo,
-    m: Option<u32>,
-) -> Result<Vec<SubNo>, AllocError>
-    requires { view_in tables.now ≡ view_of past.now.topology.now (history past.now.steps.now) }
-    ensures { IfOk result (λ subs. subs.items ≡ subs_for_in (sent_to_in past.now.topology.now (history past.now.steps.now) consumer) m) }
+fn subs_for(flow: &Flow<'_>, consumer: StageNo, m: Option<u32>) -> Result<Vec<SubNo>, AllocError>
+    requires { view_in flow.now.tables.now ≡ view_of (topology_of flow.now) (history_of flow.now) }
+    ensures { IfOk result (λ subs. subs.items ≡ subs_for_in (sent_to_in (topology_of flow.now) (history_of flow.now) consumer) m) }
 {
-    subs_in(alloc, tables.sends.as_slice(), consumer, m)
+    subs_in(flow.alloc, flow.tables.sends.as_slice(), consumer, m)
 }
 
 /// Whether the child's message runs again after this reply.
@@ -214,69 +199,37 @@ fn starts_again(
     Ok(is_crash(reply) && runs_again(past.topology.stages.find(stage), crashes))
 }
 
-fn of_child(
-    alloc: Global,
-    past: &Past<'_>,
-    tables: &Tables,
-    stage: StageNo,
-    slot: u16,
-) -> Result<Option<HandledRow>, AllocError>
-    requires { view_in tables.now ≡ view_of past.now.topology.now (history past.now.steps.now) }
-    ensures { IfOk result (λ row. option_map handling_of row ≡ Some (subs_for_in (sent_to_in past.now.topology.now (history past.now.steps.now) stage) (in_slot_in (history past.now.steps.now) stage slot), 1)) }
+fn of_child(flow: &Flow<'_>, stage: StageNo, slot: u16) -> Result<Option<HandledRow>, AllocError>
+    requires { view_in flow.now.tables.now ≡ view_of (topology_of flow.now) (history_of flow.now) }
+    ensures { IfOk result (λ row. option_map handling_of row ≡ Some (subs_for_in (sent_to_in (topology_of flow.now) (history_of flow.now) stage) (in_slot_in (history_of flow.now) stage slot), 1)) }
 {
-    let m = in_slot(past.steps, stage, slot);
-    let subs = subs_for(alloc, past, tables, stage, m)?;
+    let m = in_slot(flow.past.steps, stage, slot);
+    let subs = subs_for(flow, stage, m)?;
     Ok(Some(HandledRow { subs, units: 1 }))
 }
 
 /// What the step handles.
-pub(crate) fn handled_row(
-    alloc: Global,
-    past: &Past<'_>,
-    tables: &Tables,
-    step: &Step,
-) -> Result<Option<HandledRow>, AllocError>
-    requires { view_in tables.now ≡ view_of past.now.topology.now (history past.now.steps.now) }
-    ensures { IfOk result (λ row. option_map handling_of row ≡ step_handles past.now.topology.now (history past.now.steps.now) step.now) }
+pub(crate) fn handled_row(flow: &Flow<'_>, step: &Step) -> Result<Option<HandledRow>, AllocError>
+    requires { view_in flow.now.tables.now ≡ view_of (topology_of flow.now) (history_of flow.now) }
+    ensures { IfOk result (λ row. option_map handling_of row ≡ step_handles (topology_of flow.now) (history_of flow.now) step.now) }
 {
     match step {
         Step::Done { stage, replies } if !has_crash(replies.as_slice()) => {
-            of_take(alloc, last_take(past.steps, *stage))
+            of_take(flow.alloc, last_take(flow.past.steps, *stage))
         }
         Step::Wrote {
             stage,
             end: BatchEnd::Outcomes(_),
             ..
-        } => of_take(alloc, last_take(past.steps, *stage)),
-        Step::Gather { no, .. } => of_inbox(alloc, place_now(past, tables, no.0)),
+        } => of_take(flow.alloc, last_take(flow.past.steps, *stage)),
+        Step::Gather { no, .. } => of_inbox(flow.alloc, place_now(flow, no.0)),
         Step::ChildEnd { stage, slot, reply } => {
-            if starts_again(past, *stage, *slot, reply)? {
+            if starts_again(&flow.past, *stage, *slot, reply)? {
                 Ok(None)
             } else {
-                of_child(alloc, past, tables, *stage, *slot)
+                of_child(flow, *stage, *slot)
             }
         }
         _ => Ok(None),
     }
-}
-
-/// The rows with one more, where there is one, the newest first.
-pub(crate) fn with_handled(
-    rows: Vec<HandledRow>,
-    row: Option<HandledRow>,
-) -> Result<Vec<HandledRow>, AllocError>
-    ensures { IfOk result (λ more. (u : Sub) → handled_by more.items u ≡ with_handled_in (option_map handling_of row) u (handled_by rows.items u)) }
-{
-    match row {
-        Some(row) => push_handled(rows, row),
-        None => Ok(rows),
-    }
-}
-
-fn push_handled(rows: Vec<HandledRow>, row: HandledRow) -> Result<Vec<HandledRow>, AllocError>
-    ensures { IfOk result (λ more. more.items ≡ row ∷ rows.items) }
-{
-    let mut more = rows;
-    more.insert(0, row)?;
-    Ok(more)
 }

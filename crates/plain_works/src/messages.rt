@@ -4,7 +4,7 @@ ghost use Rattle.std.specs.Prelude.{◌≡◌, ◌++◌, ◌∷◌, [], IfOk, fa
 ghost use Rattle.pipe_model.specs.{History.{history}, Content.{content as content_in}, Flow.{view_of, batch as batch_in, first_in, numbers_in}};
 ghost use Rattle.pipe_model.specs.Work.{taken_units, messages_of as messages_of_in, chunk_of as chunk_of_in, batch_of as batch_of_in, child_of as child_of_in};
 ghost use Rattle.plain_counts.specs.Seen.{message_seen};
-ghost use Rattle.plain_queues.specs.Views.{batch_at, view_in};
+ghost use Rattle.plain_queues.specs.{Flows.{topology_of, history_of}, Views.{batch_at, view_in}};
 ghost use Rattle.plain_works.specs.Works.{WorksStand};
 
 use crate::takes::last_taken;
@@ -16,7 +16,7 @@ use pipe_types::step::Step;
 use plain_counts::{Seen, content, in_slot};
 use plain_handlers::copy_message;
 use plain_lives::Past;
-use plain_queues::{Tables, batch_row};
+use plain_queues::{Flow, batch_row};
 use std::alloc::{AllocError, Global};
 
 fn new_message(
@@ -85,18 +85,13 @@ fn messages_of(alloc: Global, steps: &[Step], numbers: &[u32]) -> Result<Vec<Mes
 }
 
 /// The messages that a processor has taken, in order.
-pub fn chunk_of(
-    alloc: Global,
-    past: &Past<'_>,
-    works: &Works,
-    stage: StageNo,
-) -> Result<Vec<Message>, AllocError>
-    requires { WorksStand past.now.topology.now (history past.now.steps.now) works.now }
-    ensures { IfOk result (λ messages. messages.items ≡ chunk_of_in past.now.topology.now (history past.now.steps.now) stage) }
+pub fn chunk_of(flow: &Flow<'_>, works: &Works, stage: StageNo) -> Result<Vec<Message>, AllocError>
+    requires { WorksStand (topology_of flow.now) (history_of flow.now) works.now }
+    ensures { IfOk result (λ messages. messages.items ≡ chunk_of_in (topology_of flow.now) (history_of flow.now) stage) }
 {
     match last_taken(works.takes.as_slice(), stage) {
-        Some(taken) => messages_of(alloc, past.steps, taken.units.as_slice()),
-        None => Ok(Vec::new(alloc)),
+        Some(taken) => messages_of(flow.alloc, flow.past.steps, taken.units.as_slice()),
+        None => Ok(Vec::new(flow.alloc)),
     }
 }
 
@@ -121,46 +116,30 @@ fn taken_batch(past: &Past<'_>, works: &Works, stage: StageNo) -> u32
 }
 
 /// The messages of the row of batch `n`, as they stand now, in order.
-fn messages_in(
-    alloc: Global,
-    steps: &[Step],
-    tables: &Tables,
-    n: u32,
-) -> Result<Vec<Message>, AllocError>
-    ensures { IfOk result (λ messages. messages.items ≡ messages_of_in (history steps.now) (numbers_in (batch_at tables.now.batches.items n))) }
+fn messages_in(flow: &Flow<'_>, n: u32) -> Result<Vec<Message>, AllocError>
+    ensures { IfOk result (λ messages. messages.items ≡ messages_of_in (history_of flow.now) (numbers_in (batch_at flow.now.tables.now.batches.items n))) }
 {
-    match batch_row(tables, n) {
-        Some(row) => messages_of(alloc, steps, row.numbers.as_slice()),
-        None => Ok(Vec::new(alloc)),
+    match batch_row(flow.tables, n) {
+        Some(row) => messages_of(flow.alloc, flow.past.steps, row.numbers.as_slice()),
+        None => Ok(Vec::new(flow.alloc)),
     }
 }
 
 /// The messages of batch `n`, as they stand now, in order.
-fn batch_messages(
-    alloc: Global,
-    past: &Past<'_>,
-    tables: &Tables,
-    n: u32,
-) -> Result<Vec<Message>, AllocError>
-    requires { view_in tables.now ≡ view_of past.now.topology.now (history past.now.steps.now) }
-    ensures { IfOk result (λ messages. messages.items ≡ messages_of_in (history past.now.steps.now) (numbers_in (batch_in past.now.topology.now (history past.now.steps.now) n))) }
+fn batch_messages(flow: &Flow<'_>, n: u32) -> Result<Vec<Message>, AllocError>
+    requires { view_in flow.now.tables.now ≡ view_of (topology_of flow.now) (history_of flow.now) }
+    ensures { IfOk result (λ messages. messages.items ≡ messages_of_in (history_of flow.now) (numbers_in (batch_in (topology_of flow.now) (history_of flow.now) n))) }
 {
-    messages_in(alloc, past.steps, tables, n)
+    messages_in(flow, n)
 }
 
 /// The messages of the batch that a batch processor has taken, in order.
-pub fn batch_of(
-    alloc: Global,
-    past: &Past<'_>,
-    tables: &Tables,
-    works: &Works,
-    stage: StageNo,
-) -> Result<Vec<Message>, AllocError>
-    requires tables { view_in tables.now ≡ view_of past.now.topology.now (history past.now.steps.now) }
-    requires works { WorksStand past.now.topology.now (history past.now.steps.now) works.now }
-    ensures { IfOk result (λ messages. messages.items ≡ batch_of_in past.now.topology.now (history past.now.steps.now) stage) }
+pub fn batch_of(flow: &Flow<'_>, works: &Works, stage: StageNo) -> Result<Vec<Message>, AllocError>
+    requires tables { view_in flow.now.tables.now ≡ view_of (topology_of flow.now) (history_of flow.now) }
+    requires works { WorksStand (topology_of flow.now) (history_of flow.now) works.now }
+    ensures { IfOk result (λ messages. messages.items ≡ batch_of_in (topology_of flow.now) (history_of flow.now) stage) }
 {
-    batch_messages(alloc, past, tables, taken_batch(past, works, stage))
+    batch_messages(flow, taken_batch(&flow.past, works, stage))
 }
 
 /// The message of the child in the slot, as a list of at most one.

@@ -8,7 +8,7 @@ use Rattle.std.proofs.Math.ListN.{set}
 use Rattle.circular_buffer.specs.Buffer.{Buffer}
 use Rattle.stage_buffer.specs.declared.Arrived.{Arrived}
 use Rattle.stage_buffer.specs.Waiting.{units_of_part, without_first}
-use Rattle.stage_buffer.specs.Order.{Entry, entry, items_at, in_part, pair_of, remove, AreAfter, AreBelow, AreAscending, Orders}
+use Rattle.stage_buffer.specs.Order.{Entry, entry, items_at, in_part, pair_of, remove, HoldsOfEach, AreAfter, AreBelow, AreAscending, Orders}
 use Rattle.stage_buffer.proofs.Ordering.{keeps, skips, in_its_part, in_other_part, none_of, tail_none}
 
 module _ {X : Type 0} where
@@ -45,14 +45,6 @@ module _ {X : Type 0} where
   pub below_end : (n : ℕ) (es : List (Entry X)) (e : Entry X) → AreBelow n (es ++ e ∷ []) → AreBelow n es
   below_end n [] e h = tt
   below_end n (f ∷ es) e h = (h.0, below_end n es e h.1)
-
-  pub below_filter : (n : ℕ) (p : Entry X → Bool) (es : List (Entry X)) → AreBelow n es → AreBelow n (filter p es)
-  below_filter n p [] h = tt
-  below_filter n p (e ∷ es) h = either (p e) (below_filter n p es h.1)
-    where
-      either : (b : Bool) → AreBelow n (filter p es) → AreBelow n (cond b (e ∷ filter p es) (filter p es))
-      either true rest = (h.0, rest)
-      either false rest = rest
 
   pub below_at : (n : ℕ) (es : List (Entry X)) (i : ℕ) (f : Entry X) → AreBelow n es → slice_get es i ≡ Some f → f.at < n
   below_at n [] i f h is = absurd (cc)
@@ -142,19 +134,11 @@ module _ {X : Type 0} where
           ap (filter (in_part q)) (removed_later p e es differs)
           ∙ ap (λ (xs : List (Entry X)). cond (in_part q e) (e ∷ xs) xs) rest
 
-  after_remove : (n p : ℕ) (es : List (Entry X)) → AreAfter n es → AreAfter n (remove p es)
-  after_remove n p [] h = tt
-  after_remove n p (e ∷ es) h = either (in_part p e) (after_remove n p es h.1)
+  pub each_remove : (P : Entry X → Type 0) (p : ℕ) (es : List (Entry X)) → HoldsOfEach P es → HoldsOfEach P (remove p es)
+  each_remove P p [] h = tt
+  each_remove P p (e ∷ es) h = either (in_part p e) (each_remove P p es h.1)
     where
-      either : (b : Bool) → AreAfter n (remove p es) → AreAfter n (cond b es (e ∷ remove p es))
-      either true rest = h.1
-      either false rest = (h.0, rest)
-
-  pub below_remove : (n p : ℕ) (es : List (Entry X)) → AreBelow n es → AreBelow n (remove p es)
-  below_remove n p [] h = tt
-  below_remove n p (e ∷ es) h = either (in_part p e) (below_remove n p es h.1)
-    where
-      either : (b : Bool) → AreBelow n (remove p es) → AreBelow n (cond b es (e ∷ remove p es))
+      either : (b : Bool) → HoldsOfEach P (remove p es) → HoldsOfEach P (cond b es (e ∷ remove p es))
       either true rest = h.1
       either false rest = (h.0, rest)
 
@@ -164,7 +148,7 @@ module _ {X : Type 0} where
     where
       either : (b : Bool) → AreAscending (remove p es) → AreAscending (cond b es (e ∷ remove p es))
       either true rest = up.1
-      either false rest = (after_remove e.at p es up.0, rest)
+      either false rest = (each_remove (λ f. e.at < f.at) p es up.0, rest)
 
   pub went : (rings new : List (Buffer (Arrived X))) (es : List (Entry X)) (p : ℕ) → Orders rings es → Changes rings new p (drop 1 (items_at rings p)) → Orders new (remove p es)
   went rings new es p orders changes =

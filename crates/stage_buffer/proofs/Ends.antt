@@ -8,8 +8,8 @@ use Rattle.std.proofs.lemmas.Option.{slice_get-map}
 use Rattle.circular_buffer.specs.Buffer.{Buffer}
 use Rattle.stage_buffer.specs.declared.Arrived.{Arrived}
 use Rattle.stage_buffer.specs.Order.{Entry, entry, items_at, in_part, Orders, front_at, back_at, IsEarliest, IsLatest}
-use Rattle.stage_buffer.proofs.Ordering.{keeps, skips, in_its_part, in_other_part, after_filter}
-use Rattle.stage_buffer.proofs.Changes.{below_filter, below_at, after_at, items_past, up_to_end}
+use Rattle.stage_buffer.proofs.Ordering.{keeps, skips, in_its_part, in_other_part, each_filter}
+use Rattle.stage_buffer.proofs.Changes.{below_at, after_at, items_past, up_to_end}
 
 module _ {X : Type 0} where
   number : Option (Entry X) → Option ℕ
@@ -68,7 +68,7 @@ module _ {X : Type 0} where
       other : e.part ≢ p → ⊥
       other apart =
           let found = number_is _ n (sym (front_is rings (e ∷ es) p orders ∙ ap (λ (xs : List (Entry X)). number (slice_get xs 0)) (skips (in_part p) e es (in_other_part p e apart))) ∙ earliest.0) in
-          let later : e.at < found.0.at = after_at e.at (filter (in_part p) es) 0 found.0 (after_filter e.at (in_part p) es orders.ascending.0) found.1 in
+          let later : e.at < found.0.at = after_at e.at (filter (in_part p) es) 0 found.0 (each_filter (λ f. e.at < f.at) (in_part p) es orders.ascending.0) found.1 in
           let at : found.0.at ≡ n = found.2 in
           let low : n ≤ e.at = no_later in
           omega arith
@@ -114,7 +114,7 @@ module _ {X : Type 0} where
       other : e.part ≢ p → ⊥
       other apart =
           let found = number_is _ n (sym (back_is rings (es ++ e ∷ []) p orders ∙ ap (λ (xs : List (Entry X)). number (slice_get xs (length xs - 1))) (filter_before es e p apart)) ∙ latest.0) in
-          let earlier : found.0.at < e.at = below_at e.at (filter (in_part p) es) _ found.0 (below_filter e.at (in_part p) es (up_to_end es e orders.ascending).1) found.1 in
+          let earlier : found.0.at < e.at = below_at e.at (filter (in_part p) es) _ found.0 (each_filter (λ f. f.at < e.at) (in_part p) es (up_to_end es e orders.ascending).1) found.1 in
           let at : found.0.at ≡ n = found.2 in
           let high : e.at ≤ n = no_earlier in
           omega arith

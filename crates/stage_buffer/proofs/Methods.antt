@@ -10,7 +10,7 @@ use Rattle.pipe_types.specs.declared.topology.Keep.TheVariants.{Last, First}
 use Rattle.stage_buffer.specs.declared.Arrived.{Arrived}
 use Rattle.stage_buffer.specs.Waiting.{units_of_part, without_first, end_of, without_end, is_over, over_unit, without_over}
 use Rattle.stage_buffer.specs.Order.{Entry, entry, in_order, items_at, in_part, pair_of, waiting_of, remove, AreBelow, Orders, Becomes, IsOrdered, HoldsSame}
-use Rattle.stage_buffer.proofs.Changes.{below_append, below_more, below_remove, length_remove, nothing_removed, pairs_remove, units_at}
+use Rattle.stage_buffer.proofs.Changes.{below_append, below_more, each_remove, length_remove, nothing_removed, pairs_remove, units_at}
 
 module _ {X : Type 0} where
   -- the rings after a change, by what stands in them
@@ -49,7 +49,7 @@ module _ {X : Type 0} where
   pub some_went : (old new : List (Buffer (Arrived X))) (len arrived part : ℕ) (a : Arrived X) → IsOrdered old len arrived → Some a ≡ slice_get (items_at old part) 0 → Becomes old new (remove part (in_order 0 old)) → IsOrdered new (len - 1) arrived
   some_went old new len arrived part a before some becomes =
       stands old new (remove part (in_order 0 old)) (len - 1) arrived before.few becomes
-      (below_remove arrived part (in_order 0 old) before.below)
+      (each_remove (λ e. e.at < arrived) part (in_order 0 old) before.below)
       (let counted = before.counted in
       let shorter = length_remove part (in_order 0 old) (some_left old part a before.orders some) in
       omega arith)
@@ -65,7 +65,7 @@ module _ {X : Type 0} where
   none_went old new len arrived part before none becomes =
       let same = none_left old part before.orders none in
       stands old new (remove part (in_order 0 old)) len arrived before.few becomes
-      (below_remove arrived part (in_order 0 old) before.below)
+      (each_remove (λ e. e.at < arrived) part (in_order 0 old) before.below)
       (ap length same ∙ before.counted)
 
   pub went_units : (old new : List (Buffer (Arrived X))) (part : ℕ) → Becomes old new (remove part (in_order 0 old)) → map pair_of (in_order 0 new) ≡ without_first part (map pair_of (in_order 0 old))

@@ -4,7 +4,7 @@ use Rattle.std.specs.Prelude.{Bool, true, false, nat_lt, nat_le, filter}
 use Rattle.std.proofs.lemmas.Bool.{cases_eq, cases_lt, cond-true, cond-false, eq-eqb, ne_eqb, lt-ltb, le-ltb, le-leb, lt-leb}
 use Rattle.circular_buffer.specs.Buffer.{Buffer}
 use Rattle.stage_buffer.specs.declared.Arrived.{Arrived}
-use Rattle.stage_buffer.specs.Order.{Entry, entry, insert, insert_all, in_order, items_at, in_part, AreAfter, AreAscending, Orders}
+use Rattle.stage_buffer.specs.Order.{Entry, entry, insert, insert_all, in_order, items_at, in_part, HoldsOfEach, AreAfter, AreAscending, Orders}
 
 module _ {X : Type 0} where
   -- a filter at one element
@@ -24,11 +24,11 @@ module _ {X : Type 0} where
   abbrev pub from : (k : ℕ) → Entry X → Bool
   from k e = nat_le k e.part
 
-  pub after_filter : (n : ℕ) (p : Entry X → Bool) (es : List (Entry X)) → AreAfter n es → AreAfter n (filter p es)
-  after_filter n p [] h = tt
-  after_filter n p (e ∷ es) h = either (p e) (after_filter n p es h.1)
+  pub each_filter : (P : Entry X → Type 0) (p : Entry X → Bool) (es : List (Entry X)) → HoldsOfEach P es → HoldsOfEach P (filter p es)
+  each_filter P p [] h = tt
+  each_filter P p (e ∷ es) h = either (p e) (each_filter P p es h.1)
     where
-      either : (b : Bool) → AreAfter n (filter p es) → AreAfter n (cond b (e ∷ filter p es) (filter p es))
+      either : (b : Bool) → HoldsOfEach P (filter p es) → HoldsOfEach P (cond b (e ∷ filter p es) (filter p es))
       either true rest = (h.0, rest)
       either false rest = rest
 
@@ -66,14 +66,14 @@ module _ {X : Type 0} where
           ap (λ (fs : List (Entry X)). insert_list fs (filter (from (suc k)) (e ∷ es))) (keeps (in_part k) e es (in_its_part k e same))
           ∙ ap (λ (gs : List (Entry X)). insert e (insert_list (filter (in_part k) es) gs)) (skips (from (suc k)) e es (lt-leb (suc k) e.part (omega arith)))
           ∙ ap (insert e) rest
-          ∙ in_front e (filter (from k) es) (after_filter e.at (from k) es h.0)
+          ∙ in_front e (filter (from k) es) (each_filter (λ f. e.at < f.at) (from k) es h.0)
           ∙ sym (keeps (from k) e es (le-leb k e.part (omega arith)))
 
       later : insert_list (filter (in_part k) es) (filter (from (suc k)) es) ≡ filter (from k) es → e.part ≢ k → k < e.part → insert_list (filter (in_part k) (e ∷ es)) (filter (from (suc k)) (e ∷ es)) ≡ filter (from k) (e ∷ es)
       later rest apart above =
           ap (λ (fs : List (Entry X)). insert_list fs (filter (from (suc k)) (e ∷ es))) (skips (in_part k) e es (in_other_part k e apart))
           ∙ ap (λ (gs : List (Entry X)). insert_list (filter (in_part k) es) gs) (keeps (from (suc k)) e es (le-leb (suc k) e.part (omega arith)))
-          ∙ all_behind (filter (in_part k) es) e (filter (from (suc k)) es) (after_filter e.at (in_part k) es h.0)
+          ∙ all_behind (filter (in_part k) es) e (filter (from (suc k)) es) (each_filter (λ f. e.at < f.at) (in_part k) es h.0)
           ∙ ap (λ (gs : List (Entry X)). e ∷ gs) rest
           ∙ sym (keeps (from k) e es (le-leb k e.part (omega arith)))
 

@@ -58,13 +58,15 @@ module _ {X : Type 0} where
   in_part p e = e.part == p
 
   -- each entry came later than this number
+  abbrev pub HoldsOfEach : (Entry X → Type 0) → List (Entry X) → Type 0
+  HoldsOfEach P [] = Unit {0}
+  HoldsOfEach P (e ∷ es) = P e × HoldsOfEach P es
+
   abbrev pub AreAfter : ℕ → List (Entry X) → Type 0
-  AreAfter n [] = Unit {0}
-  AreAfter n (e ∷ es) = (n < e.at) × AreAfter n es
+  AreAfter n es = HoldsOfEach (λ e. n < e.at) es
 
   abbrev pub AreBelow : ℕ → List (Entry X) → Type 0
-  AreBelow n [] = Unit {0}
-  AreBelow n (e ∷ es) = (e.at < n) × AreBelow n es
+  AreBelow n es = HoldsOfEach (λ e. e.at < n) es
 
   abbrev pub AreAscending : List (Entry X) → Type 0
   AreAscending [] = Unit {0}

@@ -8,7 +8,7 @@ use Rattle.pipe_replay.proofs.places.place_row.Goals as goal
 
 pub returns : goal.returns
 returns c =
-    let past = c.args.past.now in
+    let past = c.args.flow.now.past in
     let topology = past.topology.now in
     let before = history past.steps.now in
     let i = c.args.i in
@@ -17,6 +17,6 @@ returns c =
       producer =
           producer_is topology before (i + 1) (stage 0) c.requires.legal (omega arith) (omega (arith, c.requires.tables.accepted, c.requires.within))
           ∙ ap Some (sym (c.unwrap_or-producer.ensures ∙ ap (λ o. unwrap_or o (stage 0)) (c.in_ok-producer_of.ensures ∙ ap (producer_of before) c.in_ok-n.ensures)));
-      place = placed topology before c.args.tables.now i c.index.result.now c.requires.tables c.requires.within c.index.ensures;
+      place = placed topology before c.args.flow.now.tables.now i c.index.result.now c.requires.tables c.requires.within c.index.ensures;
       at = c.requires.settled.each i (omega (arith, c.requires.settled.long, c.requires.tables.accepted, c.requires.within));
     }

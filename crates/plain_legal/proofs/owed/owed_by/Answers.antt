@@ -6,7 +6,7 @@ use Rattle.plain_legal.proofs.owed.owed_by.Goals as goal
 
 pub returns-in-Accept : goal.returns-in-Accept
 returns-in-Accept c =
-    let topology = c.args.machine.now.past.topology.now in
+    let topology = c.args.machine.now.flow.past.topology.now in
     let s = c.in-Accept.stage in
     IfOk-weaker c.owed_by_accept.result _ _
     (λ owed is. is ∙ ap (λ h. dispatch_owed topology h s) c.requires.newest ∙ owed_to_accept topology (history c.args.before.now) c.args.last.now s _ c.in-Accept.is)

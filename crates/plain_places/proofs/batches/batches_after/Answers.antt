@@ -9,12 +9,12 @@ use Rattle.plain_places.proofs.batches.batches_after.Goals as goal
 
 pub returns : goal.returns
 returns c =
-    let past = c.args.past.now in
+    let past = c.args.flow.now.past in
     let before = history past.steps.now in
     IfOk-weaker c.rows_by.result _ _
     (λ rows is.
-    batches_next past.topology.now before c.args.tables.now c.args.step.now rows.items c.requires.closed
+    batches_next past.topology.now before c.args.flow.now.tables.now c.args.step.now rows.items c.requires.closed
     (is
     ∙ ap (λ rs. batches_changed before (row_change_of c.in_ok-change.change) (map batch_of rs)) c.as_slice.ensures.value
-    ∙ ap (λ change. batches_changed before change (map batch_of c.args.tables.now.batches.items)) c.in_ok-change.ensures))
+    ∙ ap (λ change. batches_changed before change (map batch_of c.args.flow.now.tables.now.batches.items)) c.in_ok-change.ensures))
     c.rows_by.ensures

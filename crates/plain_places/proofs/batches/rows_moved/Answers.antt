@@ -1,6 +1,6 @@
 use Rattle.std.proofs.Common.{◌≡◌, ℕ, ◌+◌, ◌++◌, ◌∷◌, [], drop, length, map, ap, sym, ◌∙◌, arith}
 use Rattle.std.proofs.lemmas.List.{get_or-map, length-map, map-append}
-use Rattle.pipe_model.specs.History.{history}
+use Rattle.plain_queues.specs.Flows.{history_of}
 use Rattle.plain_queues.specs.Views.{batch_of}
 use Rattle.plain_places.specs.Moves.{batch_moved}
 use Rattle.plain_places.specs.Rows.{each_from}
@@ -10,7 +10,7 @@ use Rattle.plain_places.proofs.batches.rows_moved.Goals as goal
 
 pub loop-i-preserved : goal.loop-i-preserved
 loop-i-preserved c =
-    let f = batch_moved (history c.args.steps.now) (row_move_of c.args.change.now) in
+    let f = batch_moved (history_of c.args.flow.now) (row_move_of c.args.change.now) in
     let rows = c.args.rows.now in
     let i = c.loop-i.i in
     let old = c.index-rows-i.result in

@@ -1,5 +1,5 @@
 use Rattle.std.proofs.Common.{◌≡◌, ℕ, ◌+◌, ◌++◌, drop, ap, ◌∙◌, arith}
-use Rattle.pipe_model.specs.History.{history}
+use Rattle.plain_queues.specs.Flows.{history_of}
 use Rattle.plain_places.specs.Moves.{moved_by}
 use Rattle.plain_places.specs.Rows.{each_from}
 use Rattle.plain_places.specs.Changes.{move_of}
@@ -8,7 +8,7 @@ use Rattle.plain_places.proofs.places.all_moved.Goals as goal
 
 pub loop-i-preserved : goal.loop-i-preserved
 loop-i-preserved c =
-    let f = moved_by (history c.args.steps.now) (move_of c.args.moves.now) in
+    let f = moved_by (history_of c.args.flow.now) (move_of c.args.moves.now) in
     let places = c.args.places.now in
     let i = c.loop-i.i in
     let n : c.in_ok-n.n ≡ c.loop-i.i + 1 = omega (arith, c.in_ok-n.ensures) in

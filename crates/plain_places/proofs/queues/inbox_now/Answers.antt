@@ -5,5 +5,5 @@ use Rattle.plain_places.proofs.queues.inbox_now.Goals as goal
 
 pub returns : goal.returns
 returns c =
-    let past = c.args.past.now in
+    let past = c.args.flow.now.past in
     IfOk-weaker c.inbox.result _ _ (λ got is. is ∙ ap (λ v. inbox_by past.topology.now v c.args.consumer) c.requires.view) c.inbox.ensures

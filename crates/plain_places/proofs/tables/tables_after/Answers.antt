@@ -7,12 +7,12 @@ use Rattle.plain_places.proofs.tables.tables_after.Goals as goal
 
 pub places_after-requires-clause-batches : goal.places_after-requires-clause-batches
 places_after-requires-clause-batches c =
-    let past = c.args.past.now in
-    subst (BatchesAfter past.topology.now (history past.steps.now) (view_in c.args.tables.now) c.args.step.now) (sym c.as_slice.ensures.value) c.in_ok-batches.ensures
+    let past = c.args.flow.now.past in
+    subst (BatchesAfter past.topology.now (history past.steps.now) (view_in c.args.flow.now.tables.now) c.args.step.now) (sym c.as_slice.ensures.value) c.in_ok-batches.ensures
 
 pub returns : goal.returns
 returns c =
-    let past = c.args.past.now in
-    stand_next past.topology.now (history past.steps.now) c.args.tables.now
+    let past = c.args.flow.now.past in
+    stand_next past.topology.now (history past.steps.now) c.args.flow.now.tables.now
     (record { places = c.in_ok-places.places; batches = c.in_ok-batches.batches; sends = c.in_ok-sends.sends })
     c.args.step.now c.requires.tables c.in_ok-batches.ensures c.in_ok-places.ensures c.in_ok-sends.ensures

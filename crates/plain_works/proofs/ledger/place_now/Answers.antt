@@ -5,5 +5,5 @@ use Rattle.plain_works.proofs.ledger.place_now.Goals as goal
 
 pub returns : goal.returns
 returns c =
-    let past = c.args.past.now in
-    c.place_of.ensures ∙ place_same past.topology.now (history past.steps.now) c.args.tables.now c.requires c.args.n
+    let past = c.args.flow.now.past in
+    c.place_of.ensures ∙ place_same past.topology.now (history past.steps.now) c.args.flow.now.tables.now c.requires c.args.n
