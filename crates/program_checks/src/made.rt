@@ -7,7 +7,7 @@ use super::making::case_of;
 use super::outside::{World, held_under, shown, world_of};
 use super::reading::steps_in;
 use super::slow::fault_in;
-use super::texts::{has_line, lines_with};
+use super::texts::{has_line, has_word, lines_with};
 use pipe_types::step::Step;
 use std::alloc::{AllocError, Global};
 use std::io;
@@ -52,7 +52,12 @@ fn run_row<R: Threads + Wait + Sync>(
     let mut world = world_of(rt.alloc(), &case)?;
     let (status, steps) = steps_of(waits, rt.alloc(), &case, words, &mut world)?;
     let home = is_home(rt.alloc(), &case, &mut world)?;
-    let fault = fault_of(rt.alloc(), rules, &case, &world, status, home, &steps)?;
+    let ended = Ended {
+        live: has_word(words, "--live"),
+        status,
+        home,
+    };
+    let fault = fault_of(rt.alloc(), rules, &case, &world, ended, &steps)?;
     if fault != "" {
         println!(rt; "row {row}: {fault}")?;
     }
@@ -79,21 +84,31 @@ fn steps_of<R: Threads + Wait + Sync>(
     Ok((end.status, steps))
 }
 
+/// How a run ended: whether its words name a live sink, its status, and whether all that it opened came home.
+#[derive(Clone, Copy)]
+struct Ended {
+    live: bool,
+    status: u8,
+    home: bool,
+}
+
 fn fault_of(
     alloc: Global,
     rules: &Case,
     case: &Case,
     world: &World,
-    status: u8,
-    home: bool,
+    ended: Ended,
     steps: &Vec<Step>,
 ) -> Result<&'static str, AllocError> {
+    let l = held_under(alloc, &world.edges, "mem:l")?;
     let came = Came {
         out: shown(&world.out),
+        err: shown(&world.err),
         s: held_under(alloc, &world.edges, "mem:s")?,
         t: held_under(alloc, &world.edges, "mem:t")?,
-        status,
-        home,
+        live: if ended.live { Some(l) } else { None },
+        status: ended.status,
+        home: ended.home,
         steps: steps.len(),
     };
     let calm = rules.text("rule") == "calm";
