@@ -48,12 +48,12 @@ fn make_room(core: &mut Core, n: u32) -> Result<(), AllocError>
     ensures stands { Stands core.new }
 {
     let rows = fetches_out(core) as usize + n as usize;
-    let accepted = core.totals.accepted as usize;
-    core.journal.reserve_acked(accepted + rows)?;
     core.places.reserve(rows)?;
     core.settled.reserve(rows)?;
     core.producers.reserve(rows)?;
     core.contents.reserve(rows)?;
+    let accepted = core.totals.accepted as usize;
+    core.journal.reserve_acked(accepted + rows)?;
     core.journal.reserve(MOST_DUE + 1)
 }
 

@@ -55,13 +55,7 @@ pub fn end_run(core: &mut Core, stage: StageNo, slot: u16, reply: Reply)
     put_place(&mut core.places, no, place);
     let mark = mark_of(again, entry);
     put_mark(&mut core.settled, no, mark);
-    note_one(
-        &mut core.journal,
-        &core.places,
-        &core.producers,
-        no,
-        entry,
-    );
+    note_one(&mut core.journal, &core.places, &core.producers, no, entry);
     let units = units_handled(again);
     count_handled(&mut core.subs, sub, units);
     come_home(&mut core.posts, stage, slot);

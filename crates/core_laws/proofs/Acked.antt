@@ -1,9 +1,9 @@
 -- What a log of acknowledged messages is: which rows a step adds to it, and how many rows it has.
-use Rattle.std.proofs.Common.{◌≡◌, ℕ, ◌+◌, ◌≤◌, List, [], ◌∷◌, ◌++◌, map, length, Bool, true, false, refl, ap, sym, ◌∙◌, Some, None, Option, subst, arith, All, inl, inr}
+use Rattle.std.proofs.Common.{◌≡◌, ℕ, suc, ◌+◌, ◌<◌, ◌≤◌, drop, get_or, List, [], ◌∷◌, ◌++◌, map, length, Bool, true, false, refl, ap, sym, ◌∙◌, Some, None, Option, subst, arith, All, inl, inr}
 use Rattle.std.specs.Prelude.{◌⊎◌, ◌==◌, ◌&&◌, ◌||◌, not, is_some}
 use Rattle.std.specs.List.{filter_map, cons_option}
 use Rattle.std.proofs.lemmas.Bool.{eqb-true, eq-eqb, ne_eqb}
-use Rattle.std.proofs.lemmas.List.{append-nil, map-append, length-map, length-append}
+use Rattle.std.proofs.lemmas.List.{append-nil, append_assoc, map-append, length-map, length-append, at_drop_more}
 use Rattle.std.proofs.lemmas.List.Elements.{All-nil}
 use Rattle.pipe_types.specs.declared.numbers.StageNo.{StageNo}
 use Rattle.pipe_types.specs.declared.topology.Topology.{Topology}
@@ -77,6 +77,22 @@ kept_few f (n ∷ ns) = by (f n) (kept_few f ns)
     by : (o : Option AckRow) → length (filter_map f ns) ≤ length ns → length (cons_option o (filter_map f ns)) ≤ length (n ∷ ns)
     by None few = omega (arith, few)
     by (Some row) few = omega (arith, few)
+
+-- one turn of a pass that notes them
+pub noted_step : (f : ℕ → Option AckRow) (old new : List AckRow) (ns : List ℕ) (k e : ℕ) → k < length ns → new ≡ old ++ filter_map f (get_or ns k e ∷ [])
+    → new ++ filter_map f (drop (k + 1) ns) ≡ old ++ filter_map f (drop k ns)
+noted_step f old new ns k e below is =
+    ap (λ rs. rs ++ filter_map f (drop (k + 1) ns)) is ∙ (by (f (get_or ns k e)) ∙ ap (λ rs. old ++ rs) (sym (at_drop_more (filter_map f) ns k e below)))
+  where
+    by : (o : Option AckRow) → old ++ cons_option o [] ++ filter_map f (drop (k + 1) ns) ≡ old ++ cons_option o (filter_map f (drop (k + 1) ns))
+    by None = ap (λ rs. rs ++ filter_map f (drop (k + 1) ns)) (append-nil old)
+    by (Some row) = append_assoc old (row ∷ []) (filter_map f (drop (k + 1) ns))
+
+pub noted_room : (f : ℕ → Option AckRow) (old new : List AckRow) (n left room : ℕ) → new ≡ old ++ filter_map f (n ∷ []) → length old + suc left ≤ room → length new + left ≤ room
+noted_room f old new n left room is fits =
+    let long = ap length is ∙ length-append old (filter_map f (n ∷ [])) in
+    let few = kept_few f (n ∷ []) in
+    omega (arith, long, few, fits)
 
 -- The rows of a step
 
@@ -256,31 +272,31 @@ not_both : (a b : Bool) → (not a && b) ≡ true → a ≡ false
 not_both true b h = cc
 not_both false b h = refl
 
+facts_after : (topology : Topology) (before : History) (step : Step) (older last : List AckRow) → Facts topology before older → AreAcked topology before step last → Facts topology (step ∷ before) (older ++ last)
+facts_after topology before step older last old new =
+    record {
+      once = subst (Apart itself) (sym both)
+          (apart-append itself (numbers_of older) (numbers_of last) old.once (apart_once (numbers_of last) new.once)
+          (differ_by itself itself (λ n. is_acked (place topology before n) ≡ true) (λ n. is_acked (place topology before n) ≡ false)
+          (λ n m a b e. clash (is_acked (place topology before n)) a (ap (λ k. is_acked (place topology before k)) e ∙ b)) (numbers_of older) (numbers_of last)
+          (among_each (λ n. is_acked (place topology before n) ≡ true) (numbers_of older) old.acked)
+          (among_each (λ n. is_acked (place topology before n) ≡ false) (numbers_of last)
+          (λ n there. not_both (is_acked (place topology before n)) (is_acked (place topology (step ∷ before) n)) (sym (new.members n) ∙ there)))));
+      acked = λ n there. by n (split (numbers_of older) (numbers_of last) n (sym (ap (λ ns. among ns n) both) ∙ there));
+    }
+  where
+    both : numbers_of (older ++ last) ≡ numbers_of older ++ numbers_of last
+    both = map-append (λ (row : AckRow). row.no.0) older last
+
+    by : (n : ℕ) → (among (numbers_of older) n ≡ true) ⊎ (among (numbers_of last) n ≡ true) → is_acked (place topology (step ∷ before) n) ≡ true
+    by n (inl h) = still_acked topology before step n (old.acked n h)
+    by n (inr h) = and_right (not (is_acked (place topology before n))) (is_acked (place topology (step ∷ before) n)) (sym (new.members n) ∙ h)
+
 -- each of its messages is acknowledged, and stands in it once
 facts : (topology : Topology) (before : History) (rows : List AckRow) → IsLog topology before rows → Facts topology before rows
 facts topology [] rows log = subst (Facts topology []) (sym log) (record { once = tt; acked = λ n h. cc })
 facts topology (step ∷ before) rows log =
-    subst (Facts topology (step ∷ before)) (sym log.2)
-    (record {
-      once = subst (Apart itself) (sym both)
-          (apart-append itself (numbers_of log.0) (numbers_of log.1) old.once (apart_once (numbers_of log.1) log.4.once)
-          (differ_by itself itself (λ n. is_acked (place topology before n) ≡ true) (λ n. is_acked (place topology before n) ≡ false)
-          (λ n m a b e. clash (is_acked (place topology before n)) a (ap (λ k. is_acked (place topology before k)) e ∙ b)) (numbers_of log.0) (numbers_of log.1)
-          (among_each (λ n. is_acked (place topology before n) ≡ true) (numbers_of log.0) old.acked)
-          (among_each (λ n. is_acked (place topology before n) ≡ false) (numbers_of log.1)
-          (λ n there. not_both (is_acked (place topology before n)) (is_acked (place topology (step ∷ before) n)) (sym (log.4.members n) ∙ there)))));
-      acked = λ n there. by n (split (numbers_of log.0) (numbers_of log.1) n (ap (λ ns. among ns n) (sym both) ∙ there));
-    })
-  where
-    old : Facts topology before log.0
-    old = facts topology before log.0 log.3
-
-    both : numbers_of (log.0 ++ log.1) ≡ numbers_of log.0 ++ numbers_of log.1
-    both = map-append (λ (row : AckRow). row.no.0) log.0 log.1
-
-    by : (n : ℕ) → (among (numbers_of log.0) n ≡ true) ⊎ (among (numbers_of log.1) n ≡ true) → is_acked (place topology (step ∷ before) n) ≡ true
-    by n (inl h) = still_acked topology before step n (old.acked n h)
-    by n (inr h) = and_right (not (is_acked (place topology before n))) (is_acked (place topology (step ∷ before) n)) (sym (log.4.members n) ∙ h)
+    subst (Facts topology (step ∷ before)) (sym log.2) (facts_after topology before step log.0 log.1 (facts topology before log.0 log.3) log.4)
 
 -- with what a step may acknowledge it is no longer than what was accepted
 pub fits_log : (topology : Topology) (before : History) (step : Step) (ns : List ℕ) (rows : List AckRow) → IsLog topology before rows → MayAck topology before step ns → length rows + length ns ≤ accepted before

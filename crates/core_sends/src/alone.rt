@@ -128,8 +128,8 @@ pub(crate) fn note_alone(
     ensures same_steps { journal.new.steps ≡ journal.old.steps }
     ensures same_spare { journal.new.spare ≡ journal.old.spare }
 {
-    for k in 0..served {
-        note_batch(journal, producers, queue[k], batches, legs, mark);
+    for i in 0..served {
+        note_batch(journal, producers, queue[i], batches, legs, mark);
     }
 }
 

@@ -111,18 +111,13 @@ pub fn note_row(
 }
 
 /// The row of the message that stands so, where it is acknowledged.
-fn row_of(
-    place: Option<&Place>,
-    producer: Option<&StageNo>,
-    no: u32,
-    at: u64,
-) -> Option<AckRow>
+fn row_of(place: Option<&Place>, producer: Option<&StageNo>, no: u32, at: u64) -> Option<AckRow>
     ensures { result ≡ ack_row (option_copied place) (option_copied producer) at no }
 {
-    match (place?, producer?) {
-        (Place::Acked(outcome), producer) => Some(AckRow {
+    match place? {
+        Place::Acked(outcome) => Some(AckRow {
             no: MsgNo(no),
-            producer: *producer,
+            producer: *producer?,
             successful: matches!(outcome, Outcome::Successful),
             at,
         }),

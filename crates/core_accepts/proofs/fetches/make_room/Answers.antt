@@ -40,6 +40,25 @@ returns-clause-log c =
     let room = ap (λ (a : AckLog). a.room) c.reserve-5.ensures.same_acked in
     holds_on_ok c.reserve-5.result _ (omega (arith, c.in_ok-reserve_acked.ensures.room, room, c.fetches_out.ensures, many))
 
+pub returns-in_err-reserve_acked-clause-stands : goal.returns-in_err-reserve_acked-clause-stands
+returns-in_err-reserve_acked-clause-stands c =
+    let core = c.args.core.now in
+    roomy core c.reserve.new.self c.reserve-2.new.self c.reserve-3.new.self c.reserve-4.new.self core.waiting c.reserve_acked.new.self c.requires.stands
+    (record {
+      places = c.reserve.ensures.items;
+      settled = c.reserve-2.ensures.items;
+      producers = c.reserve-3.ensures.items;
+      contents = c.reserve-4.ensures.items;
+      queues = λ t. refl;
+      queue_count = refl;
+      places_room = c.reserve.ensures.capacity;
+      settled_room = c.reserve-2.ensures.capacity;
+      producers_room = c.reserve-3.ensures.capacity;
+      contents_room = c.reserve-4.ensures.capacity;
+      queues_room = λ t. omega arith;
+    })
+    c.reserve_acked.ensures.same_steps (omega (arith, c.reserve_acked.ensures.same_spare)) c.reserve_acked.ensures.same_rows c.reserve_acked.ensures.kept_room
+
 pub returns-clause-stands : goal.returns-clause-stands
 returns-clause-stands c =
     let core = c.args.core.now in

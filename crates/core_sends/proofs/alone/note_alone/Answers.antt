@@ -5,8 +5,8 @@ use Rattle.core_sends.proofs.LoneLog.{noted_more, room_more, room_first, front_u
 use Rattle.std.specs.List.{filter_map}
 use Rattle.core_sends.proofs.alone.note_alone.Goals as goal
 
-pub loop-k-init : goal.loop-k-init
-loop-k-init c =
+pub loop-i-init : goal.loop-i-init
+loop-i-init c =
     record {
       noted = refl;
       room = c.requires.room;
@@ -17,29 +17,29 @@ loop-k-init c =
 
 pub note_batch-requires-clause-endable : goal.note_batch-requires-clause-endable
 note_batch-requires-clause-endable c =
-    subst (IsEndable c.args.batches.now.items (length c.args.producers.now)) (sym c.index.ensures) (c.requires.endable c.loop-k.k c.index.result.now (omega (arith, c.requires.served)))
+    subst (IsEndable c.args.batches.now.items (length c.args.producers.now)) (sym c.index.ensures) (c.requires.endable c.loop-i.i c.index.result.now (omega (arith, c.requires.served)))
 
 pub note_batch-requires-clause-room : goal.note_batch-requires-clause-room
 note_batch-requires-clause-room c =
-    let l = c.loop-k in
+    let l = c.loop-i in
     let unit = c.index.result.now in
     let queue = c.args.queue.now.items in
-    let now = front_unit (λ us. served_alone c.args.batches.now.items c.args.legs.now us) queue c.args.served l.k unit (omega arith) c.requires.served c.index.ensures in
-    let fits : length l.journal.acked.rows + length (served_alone c.args.batches.now.items c.args.legs.now (unit ∷ drop (l.k + 1) (take c.args.served queue))) ≤ l.journal.acked.room =
+    let now = front_unit (λ us. served_alone c.args.batches.now.items c.args.legs.now us) queue c.args.served l.i unit (omega arith) c.requires.served c.index.ensures in
+    let fits : length l.journal.acked.rows + length (served_alone c.args.batches.now.items c.args.legs.now (unit ∷ drop (l.i + 1) (take c.args.served queue))) ≤ l.journal.acked.room =
     subst (λ ns. length l.journal.acked.rows + length ns ≤ l.journal.acked.room) now l.invariant.room in
-    room_first c.args.batches.now.items c.args.legs.now unit (drop (l.k + 1) (take c.args.served queue)) (length l.journal.acked.rows) l.journal.acked.room fits
+    room_first c.args.batches.now.items c.args.legs.now unit (drop (l.i + 1) (take c.args.served queue)) (length l.journal.acked.rows) l.journal.acked.room fits
 
-pub loop-k-preserved : goal.loop-k-preserved
-loop-k-preserved c =
-    let l = c.loop-k in
+pub loop-i-preserved : goal.loop-i-preserved
+loop-i-preserved c =
+    let l = c.loop-i in
     let p = c.note_batch in
     let unit = c.index.result.now in
     let queue = c.args.queue.now.items in
     let rows = c.args.batches.now.items in
     let legs = c.args.legs.now in
     let f = success c.args.producers.now c.args.mark in
-    let rest = drop (l.k + 1) (take c.args.served queue) in
-    let now = front_unit (λ us. served_alone rows legs us) queue c.args.served l.k unit (omega arith) c.requires.served c.index.ensures in
+    let rest = drop (l.i + 1) (take c.args.served queue) in
+    let now = front_unit (λ us. served_alone rows legs us) queue c.args.served l.i unit (omega arith) c.requires.served c.index.ensures in
     let fits : length l.journal.acked.rows + length (served_alone rows legs (unit ∷ rest)) ≤ l.journal.acked.room = subst (λ ns. length l.journal.acked.rows + length ns ≤ l.journal.acked.room) now l.invariant.room in
     record {
       noted = noted_more f l.journal.acked.rows p.new.journal.acked.rows rows legs unit rest p.ensures.noted
@@ -53,9 +53,9 @@ loop-k-preserved c =
 
 pub returns-clause-noted : goal.returns-clause-noted
 returns-clause-noted c =
-    let l = c.loop-k in
+    let l = c.loop-i in
     let queue = c.args.queue.now.items in
-    let all : length (take c.args.served queue) ≤ l.k = omega (arith, length-take c.args.served queue) in
+    let all : length (take c.args.served queue) ≤ l.i = omega (arith, length-take c.args.served queue) in
     sym (append-nil l.journal.acked.rows)
     ∙ (ap (λ ns. l.journal.acked.rows ++ filter_map (success c.args.producers.now c.args.mark) ns)
-    (sym (at_drop_all (λ us. served_alone c.args.batches.now.items c.args.legs.now us) (take c.args.served queue) l.k all)) ∙ l.invariant.noted)
+    (sym (at_drop_all (λ us. served_alone c.args.batches.now.items c.args.legs.now us) (take c.args.served queue) l.i all)) ∙ l.invariant.noted)
