@@ -4,3 +4,4 @@ pub mod Ascending
 pub mod Texts
 pub mod Grouping
 pub mod Writing
+pub mod Logged
