@@ -52,8 +52,8 @@ fn make_room(core: &mut Core, n: u32) -> Result<(), AllocError>
     core.settled.reserve(rows)?;
     core.producers.reserve(rows)?;
     core.contents.reserve(rows)?;
-    let accepted = core.totals.accepted as usize;
-    core.journal.reserve_acked(accepted + rows)?;
+    let all = core.totals.accepted as usize + rows;
+    core.journal.reserve_acked(all)?;
     core.journal.reserve(MOST_DUE + 1)
 }
 

@@ -104,7 +104,6 @@ impl Journal {
         ensures same_rows { self.new.acked.rows ≡ self.old.acked.rows }
         ensures kept_room { self.old.acked.room ≤ self.new.acked.room }
         ensures room { OnOk result (rows ≤ self.new.acked.room) }
-        ensures unchanged { OnErr result (self.new ≡ self.old) }
     {
         self.acked.reserve(rows.saturating_sub(self.acked.len()))
     }

@@ -25,8 +25,8 @@ returns-clause-rows c =
       contents = omega (arith, c.in_ok-reserve-4.ensures.ok, c.reserve-4.ensures.len, core.contents.ok.0, z.contents, c.fetches_out.ensures);
     })
 
-pub overflow_add : goal.overflow_add
-overflow_add c =
+pub overflow_add-all : goal.overflow_add-all
+overflow_add-all c =
     let core = c.args.core.now in
     let x = c.requires.stands.holds in
     let many : core.totals.accepted ≡ accepted core.journal.steps = ap (λ (y : Totals). y.accepted) x.fields.totals in
@@ -39,6 +39,9 @@ returns-clause-log c =
     let many : core.totals.accepted ≡ accepted core.journal.steps = ap (λ (y : Totals). y.accepted) x.fields.totals in
     let room = ap (λ (a : AckLog). a.room) c.reserve-5.ensures.same_acked in
     holds_on_ok c.reserve-5.result _ (omega (arith, c.in_ok-reserve_acked.ensures.room, room, c.fetches_out.ensures, many))
+
+pub returns-clause-unchanged : goal.returns-clause-unchanged
+returns-clause-unchanged c = c.reserve-5.ensures.same_steps ∙ c.reserve_acked.ensures.same_steps
 
 pub returns-in_err-reserve_acked-clause-stands : goal.returns-in_err-reserve_acked-clause-stands
 returns-in_err-reserve_acked-clause-stands c =
