@@ -5,3 +5,4 @@ pub mod Texts
 pub mod Grouping
 pub mod Writing
 pub mod Logged
+pub mod Cuts
