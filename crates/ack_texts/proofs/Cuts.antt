@@ -145,7 +145,7 @@ next topology later between before step rows first group rest log is early here 
     record {
       acked = subst (AreAcked topology (between ++ before) step) (sym groups) c.log.4;
       log = (first, group, refl, subst (IsLog topology (between ++ before)) (sym firsts) c.log.3, subst (AreAcked topology (between ++ before) step) (sym groups) c.log.4);
-      text = ap (λ as. as ++ acknowledged_by topology (between ++ before) step)
+      text = ap (λ acks. acks ++ acknowledged_by topology (between ++ before) step)
           (nothing_more topology between before first early (subst (IsLog topology (between ++ before)) (sym firsts) c.log.3));
     }
   where
