@@ -1,10 +1,9 @@
 -- What a batcher's dispatch acknowledges: the messages of the batches that it serves alone.
-use Rattle.std.proofs.Common.{◌≡◌, ℕ, ◌+◌, ◌-◌, ◌<◌, ◌≤◌, List, [], ◌∷◌, ◌++◌, length, take, drop, get_or, Bool, true, false, refl, ap, sym, ◌∙◌, subst, arith, Some, None, Option}
-use Rattle.std.specs.Prelude.{slice_get, option_map, if◌then◌else◌, not, is_some, ◌==◌, ◌||◌}
-use Rattle.std.specs.List.{flat_map, filter_map, cons_option}
+use Rattle.std.proofs.Common.{◌≡◌, ℕ, suc, ◌+◌, ◌-◌, ◌<◌, ◌≤◌, List, [], ◌∷◌, ◌++◌, length, take, drop, get_or, Bool, true, false, refl, ap, sym, ◌∙◌, subst, arith, Some, None, Option}
+use Rattle.std.specs.Prelude.{slice_get, option_map, if◌then◌else◌, is_some, ◌==◌, ◌||◌}
+use Rattle.std.specs.List.{flat_map, filter_map}
 use Rattle.std.proofs.lemmas.Bool.{eq-eqb}
-use Rattle.std.proofs.lemmas.List.{append-nil, append_assoc, length-append, length-take, get_or-take, at_drop_more}
-use Rattle.std.proofs.lemmas.List.Concat.{flat_map-append}
+use Rattle.std.proofs.lemmas.List.{append_assoc, length-append, length-take, get_or-take, at_drop_more}
 use Rattle.std.proofs.lemmas.List.Elements.{filter_map-append}
 use Rattle.pipe_types.specs.declared.numbers.StageNo.{StageNo}
 use Rattle.pipe_types.specs.declared.numbers.BatchNo.{BatchNo}
@@ -37,7 +36,7 @@ use Rattle.core_laws.proofs.Parts.{closed_is}
 use Rattle.core_state.specs.declared.state.Core.{Core}
 use Rattle.core_state.specs.Stands.{Fields}
 use Rattle.core_state.proofs.Settling.{numbers_once}
-use Rattle.core_sends.specs.Batches.{not_sent, lone_of, numbers_of, served_alone, success}
+use Rattle.core_sends.specs.Batches.{alone_in, served_alone, success}
 use Rattle.core_sends.proofs.Lone.{numbers_by, waits_inside}
 use Rattle.core_sends.proofs.Served.{alone_apart}
 
@@ -124,14 +123,6 @@ alone_rows core new s producers at ns h x p-is at-is ns-is =
 
 -- The passes
 
--- the messages of a batch more
-pub served_more : (rows : List BatchRow) (legs : List (ℕ × Ends)) (unit : ℕ × ℕ) (units : List (ℕ × ℕ)) → served_alone rows legs (unit ∷ units) ≡ served_alone rows legs (unit ∷ []) ++ served_alone rows legs units
-served_more rows legs unit units = by (not_sent legs unit.1)
-  where
-    by : (b : Bool) → flat_map (numbers_of rows) (if b then unit.1 ∷ lone_of legs units else lone_of legs units) ≡ flat_map (numbers_of rows) (if b then unit.1 ∷ [] else []) ++ flat_map (numbers_of rows) (lone_of legs units)
-    by true = ap (λ ns. ns ++ flat_map (numbers_of rows) (lone_of legs units)) (sym (append-nil (numbers_of rows unit.1)))
-    by false = refl
-
 -- the unit at a place of the front
 pub front_unit : {Y : Type 0} (F : List (ℕ × ℕ) → Y) (units : List (ℕ × ℕ)) (count k : ℕ) (unit : ℕ × ℕ) → k < count → count ≤ length units → unit ≡ get_or units k unit
     → F (drop k (take count units)) ≡ F (unit ∷ drop (k + 1) (take count units))
@@ -140,23 +131,23 @@ front_unit F units count k unit below within read =
     at_drop_more F (take count units) k unit long ∙ ap (λ u. F (u ∷ drop (k + 1) (take count units))) (get_or-take count units k unit below ∙ sym read)
 
 -- what is noted of a batch, and then of the others
-pub noted_more : (f : ℕ → Option AckRow) (old new : List AckRow) (rows : List BatchRow) (legs : List (ℕ × Ends)) (unit : ℕ × ℕ) (units : List (ℕ × ℕ)) → new ≡ old ++ filter_map f (served_alone rows legs (unit ∷ []))
+pub noted_more : (f : ℕ → Option AckRow) (old new : List AckRow) (rows : List BatchRow) (legs : List (ℕ × Ends)) (unit : ℕ × ℕ) (units : List (ℕ × ℕ)) → new ≡ old ++ filter_map f (alone_in rows legs unit)
     → new ++ filter_map f (served_alone rows legs units) ≡ old ++ filter_map f (served_alone rows legs (unit ∷ units))
 noted_more f old new rows legs unit units e =
     ap (λ rs. rs ++ filter_map f (served_alone rows legs units)) e
-    ∙ (append_assoc old (filter_map f (served_alone rows legs (unit ∷ []))) (filter_map f (served_alone rows legs units))
-    ∙ ap (λ rs. old ++ rs) (sym (filter_map-append f (served_alone rows legs (unit ∷ [])) (served_alone rows legs units)) ∙ ap (filter_map f) (sym (served_more rows legs unit units))))
+    ∙ (append_assoc old (filter_map f (alone_in rows legs unit)) (filter_map f (served_alone rows legs units))
+    ∙ ap (λ rs. old ++ rs) (sym (filter_map-append f (alone_in rows legs unit) (served_alone rows legs units))))
 
 -- and the room that is left for them
-pub room_more : (f : ℕ → Option AckRow) (old new : List AckRow) (rows : List BatchRow) (legs : List (ℕ × Ends)) (unit : ℕ × ℕ) (units : List (ℕ × ℕ)) (room : ℕ) → new ≡ old ++ filter_map f (served_alone rows legs (unit ∷ []))
+pub room_more : (f : ℕ → Option AckRow) (old new : List AckRow) (rows : List BatchRow) (legs : List (ℕ × Ends)) (unit : ℕ × ℕ) (units : List (ℕ × ℕ)) (room : ℕ) → new ≡ old ++ filter_map f (alone_in rows legs unit)
     → length old + length (served_alone rows legs (unit ∷ units)) ≤ room → length new + length (served_alone rows legs units) ≤ room
 room_more f old new rows legs unit units room e fits =
-    let all = ap length (served_more rows legs unit units) ∙ length-append (served_alone rows legs (unit ∷ [])) (served_alone rows legs units) in
-    let long = ap length e ∙ length-append old (filter_map f (served_alone rows legs (unit ∷ []))) in
-    let few = kept_few f (served_alone rows legs (unit ∷ [])) in
+    let all = length-append (alone_in rows legs unit) (served_alone rows legs units) in
+    let long = ap length e ∙ length-append old (filter_map f (alone_in rows legs unit)) in
+    let few = kept_few f (alone_in rows legs unit) in
     omega (arith, all, long, few, fits)
 
-pub room_first : (rows : List BatchRow) (legs : List (ℕ × Ends)) (unit : ℕ × ℕ) (units : List (ℕ × ℕ)) (old room : ℕ) → old + length (served_alone rows legs (unit ∷ units)) ≤ room → old + length (served_alone rows legs (unit ∷ [])) ≤ room
+pub room_first : (rows : List BatchRow) (legs : List (ℕ × Ends)) (unit : ℕ × ℕ) (units : List (ℕ × ℕ)) (old room : ℕ) → old + length (served_alone rows legs (unit ∷ units)) ≤ room → old + length (alone_in rows legs unit) ≤ room
 room_first rows legs unit units old room fits =
-    let all = ap length (served_more rows legs unit units) ∙ length-append (served_alone rows legs (unit ∷ [])) (served_alone rows legs units) in
+    let all = length-append (alone_in rows legs unit) (served_alone rows legs units) in
     omega (arith, all, fits)

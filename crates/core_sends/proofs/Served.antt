@@ -1,6 +1,6 @@
 -- The batches at the front of a batcher's queue that its dispatch serves.
 use Rattle.std.proofs.Common.{◌≡◌, ℕ, ◌-◌, ◌≤◌, List, [], ◌∷◌, ◌++◌, map, length, take, drop, All, Bool, true, false, refl, ap, sym, ◌∙◌, subst, arith, Some, None, Option, is_some}
-use Rattle.std.specs.Prelude.{if◌then◌else◌, ◌&&◌, not, filter, slice_get, option_map, ◌==◌}
+use Rattle.std.specs.Prelude.{if◌then◌else◌, ◌&&◌, not, filter, slice_get, option_map, ◌==◌, cond}
 use Rattle.std.proofs.lemmas.List.{take_at, drop_at, length-append}
 use Rattle.pipe_types.specs.declared.numbers.StageNo.{StageNo}
 use Rattle.pipe_types.specs.declared.topology.Topology.{Topology}
@@ -38,6 +38,7 @@ use Rattle.core_sends.proofs.Sent.{pair, each_all}
 use Rattle.std.specs.List.{flat_map}
 use Rattle.queue_laws.proofs.Distinct.{itself}
 use Rattle.queue_laws.proofs.Alone.{IsAlone, alone_each}
+use Rattle.core_sends.specs.Losing.{numbers_in}
 
 -- what waits in a stage that broadcasts begins with what is served
 front : (topology : Topology) (before : History) (s : StageNo) → is_broadcast (kind_in (spec_of topology s)) ≡ true
@@ -195,14 +196,25 @@ flat_alike : (f g : ℕ → List ℕ) (bs : List ℕ) → Each (λ b. f b ≡ g 
 flat_alike f g [] h = refl
 flat_alike f g (b ∷ bs) h = (λ i. h.0 i ++ flat_map f bs) ∙ ap (λ ns. g b ++ ns) (flat_alike f g bs h.1)
 
+lone_flat : (rows : List BatchRow) (legs : List (ℕ × Ends)) (units : List (ℕ × ℕ)) → served_alone rows legs units ≡ flat_map (numbers_of rows) (lone_of legs units)
+lone_flat rows legs [] = refl
+lone_flat rows legs (unit ∷ units) = by (not_sent legs unit.1) (lone_flat rows legs units)
+  where
+    by : (b : Bool) → served_alone rows legs units ≡ flat_map (numbers_of rows) (lone_of legs units)
+        → (if b then numbers_of rows unit.1 else []) ++ served_alone rows legs units
+        ≡ flat_map (numbers_of rows) (numbers_in (cond b (unit ∷ filter (λ (u : ℕ × ℕ). not_sent legs u.1) units) (filter (λ (u : ℕ × ℕ). not_sent legs u.1) units)))
+    by true rest = ap (λ ns. numbers_of rows unit.1 ++ ns) rest
+    by false rest = rest
+
 pub served_is : (core : Core) (topology : Topology) (before : History) (s : StageNo) (rows : List BatchRow) (legs : List (ℕ × Ends)) (units : List (ℕ × ℕ)) → Fields core topology before → is_legal topology before ≡ true
     → ((i : ℕ) → closed_at rows i ≡ closed_at core.batches.items i) → lone_of legs units ≡ alone topology before s
     → served_alone rows legs units ≡ flat_map (numbers_by topology before) (alone topology before s)
 served_is core topology before s rows legs units x h same those =
-    ap (flat_map (numbers_of rows)) those
+    lone_flat rows legs units
+    ∙ (ap (flat_map (numbers_of rows)) those
     ∙ flat_alike (numbers_of rows) (numbers_by topology before) (alone topology before s)
     (each_weaker (IsAlone topology before s) (λ b. numbers_of rows b ≡ numbers_by topology before b)
-    (λ b a. numbers_kept core.batches.items rows same b ∙ numbers_are core topology before b x (batch_least topology before b (there (batch topology before b) a.waits))) (alone topology before s) (alone_each topology before s))
+    (λ b a. numbers_kept core.batches.items rows same b ∙ numbers_are core topology before b x (batch_least topology before b (there (batch topology before b) a.waits))) (alone topology before s) (alone_each topology before s)))
   where
     there : (o : Option Batch) → batch_waits_in s o ≡ true → is_some o ≡ true
     there None w = cc

@@ -69,9 +69,13 @@ all_marked numbers (b ∷ bs) mark n old = all_marked numbers bs mark n (marked 
 abbrev pub lone_of : List (ℕ × Ends) → List (ℕ × ℕ) → List ℕ
 lone_of legs units = numbers_in (filter (λ unit. not_sent legs unit.1) units)
 
+-- the messages of the batch, where it was not sent
+abbrev pub alone_in : List BatchRow → List (ℕ × Ends) → ℕ × ℕ → List ℕ
+alone_in rows legs unit = if not_sent legs unit.1 then numbers_of rows unit.1 else []
+
 -- the messages of those of these batches that were not sent
 abbrev pub served_alone : List BatchRow → List (ℕ × Ends) → List (ℕ × ℕ) → List ℕ
-served_alone rows legs units = flat_map (numbers_of rows) (lone_of legs units)
+served_alone rows legs units = flat_map (alone_in rows legs) units
 
 -- the row of a message that is a success
 abbrev pub success : List StageNo → (at : ℕ) → ℕ → Option AckRow

@@ -2,7 +2,7 @@
 
 ghost use Rattle.std.specs.{Prelude.{◌≡◌, ℕ, suc, ◌+◌, ◌++◌, ◌≤◌, ◌<◌, [], ◌∷◌, length, All, true, drop, take, filter, option_map, slice_get, Some, vec_capacity}, List.{filter_map}};
 ghost use Rattle.core_tables.specs.Tables.{spare_in};
-ghost use Rattle.core_sends.specs.{Losing.{marked}, Batches.{not_sent, numbers_of, succeeded, all_succeeded, all_marked, lone_of, served_alone, success, IsEndable}};
+ghost use Rattle.core_sends.specs.{Losing.{marked}, Batches.{not_sent, numbers_of, succeeded, all_succeeded, all_marked, lone_of, alone_in, served_alone, success, IsEndable}};
 
 use crate::leaving::keep_unsent;
 use core_state::settles::{mark_all, note_row};
@@ -143,8 +143,8 @@ fn note_batch(
     mark: u64,
 )
     requires endable { IsEndable batches.now.items (length producers.now) unit }
-    requires room { length journal.old.acked.rows + length (served_alone batches.now.items legs.now (unit ∷ [])) ≤ journal.old.acked.room }
-    ensures noted { journal.new.acked.rows ≡ journal.old.acked.rows ++ filter_map (success producers.now mark) (served_alone batches.now.items legs.now (unit ∷ [])) }
+    requires room { length journal.old.acked.rows + length (alone_in batches.now.items legs.now unit) ≤ journal.old.acked.room }
+    ensures noted { journal.new.acked.rows ≡ journal.old.acked.rows ++ filter_map (success producers.now mark) (alone_in batches.now.items legs.now unit) }
     ensures same_room { journal.new.acked.room ≡ journal.old.acked.room }
     ensures same_steps { journal.new.steps ≡ journal.old.steps }
     ensures same_spare { journal.new.spare ≡ journal.old.spare }
@@ -162,7 +162,7 @@ fn note_batch(
 
 /// Notes these messages as successes in the journal's log.
 fn note_successes(journal: &mut Journal, producers: &[StageNo], numbers: &[u32], mark: u64)
-    requires least { All (λ n. 1 ≤ n) numbers.now }
+    requires within { All (λ n. (1 ≤ n) × (n ≤ length producers.now)) numbers.now }
     requires room { length journal.old.acked.rows + length numbers.now ≤ journal.old.acked.room }
     ensures noted { journal.new.acked.rows ≡ journal.old.acked.rows ++ filter_map (success producers.now mark) numbers.now }
     ensures same_room { journal.new.acked.room ≡ journal.old.acked.room }
