@@ -1,5 +1,5 @@
 -- The fields after the end of a child's run.
-use Rattle.std.proofs.Common.{◌≡◌, ◌≢◌, ℕ, suc, ◌+◌, ◌<◌, ◌≤◌, List, ◌∷◌, length, map, filter, Bool, true, false, refl, ap, sym, ◌∙◌, Some, None, Option, arith, inl, inr, subst, get_or}
+use Rattle.std.proofs.Common.{◌≡◌, ◌≢◌, ℕ, suc, ◌+◌, ◌<◌, ◌≤◌, List, ◌∷◌, length, map, filter, Bool, true, false, refl, ap, sym, ◌∙◌, Some, None, Option, arith, inl, inr, subst, get_or, []}
 use Rattle.std.specs.Prelude.{slice_get, option_map, if◌then◌else◌, ◌==◌, ◌&&◌, ◌⊎◌, not, is_some, IfSome, IsSome, option_to_list}
 use Rattle.std.specs.declared.alloc.Global.{Global}
 use Rattle.std.specs.declared.vec.Vec.{Vec}

@@ -38,7 +38,7 @@ use Rattle.core_sends.proofs.Sent.{pair, each_all}
 use Rattle.std.specs.List.{flat_map}
 use Rattle.queue_laws.proofs.Distinct.{itself}
 use Rattle.queue_laws.proofs.Alone.{IsAlone, alone_each}
-use Rattle.core_sends.specs.Losing.{numbers_in}
+use Rattle.core_sends.specs.Losing.{numbers_in as unit_numbers}
 
 -- what waits in a stage that broadcasts begins with what is served
 front : (topology : Topology) (before : History) (s : StageNo) → is_broadcast (kind_in (spec_of topology s)) ≡ true
@@ -202,7 +202,7 @@ lone_flat rows legs (unit ∷ units) = by (not_sent legs unit.1) (lone_flat rows
   where
     by : (b : Bool) → served_alone rows legs units ≡ flat_map (numbers_of rows) (lone_of legs units)
         → (if b then numbers_of rows unit.1 else []) ++ served_alone rows legs units
-        ≡ flat_map (numbers_of rows) (numbers_in (cond b (unit ∷ filter (λ (u : ℕ × ℕ). not_sent legs u.1) units) (filter (λ (u : ℕ × ℕ). not_sent legs u.1) units)))
+        ≡ flat_map (numbers_of rows) (unit_numbers (cond b (unit ∷ filter (λ (u : ℕ × ℕ). not_sent legs u.1) units) (filter (λ (u : ℕ × ℕ). not_sent legs u.1) units)))
     by true rest = ap (λ ns. numbers_of rows unit.1 ++ ns) rest
     by false rest = rest
 
