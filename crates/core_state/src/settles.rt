@@ -100,7 +100,7 @@ pub fn note_row(
     at: u64,
 )
     requires { length journal.old.acked.rows < journal.old.acked.room }
-    ensures noted { journal.new.acked.rows ≡ journal.old.acked.rows ++ cons_option (ack_row (option_copied place) (option_copied producer) at no) [] }
+    ensures noted { journal.new.acked.rows ≡ journal.old.acked.rows ++ cons_option (ack_row (option_copied place.entry) (option_copied producer.entry) at no) [] }
     ensures same_room { journal.new.acked.room ≡ journal.old.acked.room }
     ensures same_steps { journal.new.steps ≡ journal.old.steps }
     ensures same_spare { journal.new.spare ≡ journal.old.spare }
@@ -112,7 +112,7 @@ pub fn note_row(
 
 /// The row of the message that stands so, where it is acknowledged.
 fn row_of(place: Option<&Place>, producer: Option<&StageNo>, no: u32, at: u64) -> Option<AckRow>
-    ensures { result ≡ ack_row (option_copied place) (option_copied producer) at no }
+    ensures { result ≡ ack_row (option_copied place.entry) (option_copied producer.entry) at no }
 {
     match place? {
         Place::Acked(outcome) => Some(AckRow {
