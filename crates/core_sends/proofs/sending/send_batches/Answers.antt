@@ -83,8 +83,8 @@ begin_all-requires-clause-not_noted c =
     let is = units_named core c.args.stage c.index.result.now c.args.sent.items c.deref-2.result.now c.requires.stands.holds c.requires.legal c.index.ensures c.requires.planned (c.deref-2.ensures.value ∙ c.name_units.ensures) in
     none_noted core core.topology core.journal.steps c.args.stage c.deref-2.result.now c.requires.stands.holds.fields c.requires.stands.holds.legal c.requires.batches is
 
-pub index-2-requires : goal.index-2-requires
-index-2-requires c =
+pub index-requires-2 : goal.index-requires-2
+index-requires-2 c =
     omega (arith, (dispatching c.args.core.now c.args.stage c.requires.stands.holds c.requires.legal).within, c.requires.stands.holds.fields.sized.waiting)
 
 pub note_alone-requires-clause-served : goal.note_alone-requires-clause-served
