@@ -64,3 +64,7 @@ separator_none at none = ap separator none
 pub separator_some : (at : ℕ) → 0 < at → separator at ≡ codes ","
 separator_some zero some = let none : ⊥ = omega arith in absurd none
 separator_some (suc at) some = refl
+
+-- the same text in other words
+pub retext : {W : Type 0} (puts : W → W → List ℕ → Type 0) (old new : W) (text text' : List ℕ) → text ≡ text' → puts old new text → puts old new text'
+retext puts old new text text' same p = rw same at p

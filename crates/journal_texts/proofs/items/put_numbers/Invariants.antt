@@ -5,4 +5,4 @@ use Rattle.journal_texts.proofs.items.put_numbers.Given as goal
 
 -- the texts so far
 abbrev pub invariant-loop-n : goal.invariant-loop-n
-invariant-loop-n l = l.out.items ≡ l.initial.out.items ++ flat_map number_word (take l.n-index l.numbers)
+invariant-loop-n g l = g.W.TextSink.puts l.fn.out l.out (flat_map number_word (take l.n-index l.numbers))

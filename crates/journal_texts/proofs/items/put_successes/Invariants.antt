@@ -7,4 +7,4 @@ use Rattle.journal_texts.proofs.items.put_successes.Given as goal
 
 -- the items so far
 abbrev pub invariant-loop-at : goal.invariant-loop-at
-invariant-loop-at l = l.out.items ≡ l.initial.out.items ++ list_text outcome_text (replicate l.at Successful)
+invariant-loop-at g l = g.W.TextSink.puts l.fn.out l.out (list_text outcome_text (replicate l.at Successful))

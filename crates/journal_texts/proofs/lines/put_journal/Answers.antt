@@ -1,0 +1,4 @@
+use Rattle.journal_texts.proofs.lines.put_journal.Goals as goal
+
+pub returns : goal.returns
+returns g c = g.met.W.TextSink.together _ _ _ _ _ c.put.ensures (g.met.W.TextSink.together _ _ _ _ _ c.put_lines.ensures (g.met.W.TextSink.together _ _ _ _ _ c.put_words.ensures c.put-2.ensures))
