@@ -5,3 +5,4 @@ pub mod Whole
 pub mod Steps
 pub use Rattle.run_pipe.specs.Clocks
 pub use Rattle.run_pipe.specs.Idle
+pub use Rattle.run_pipe.specs.Watches

@@ -1,11 +1,11 @@
 //! The run.
 
-ghost use Rattle.std.specs.Prelude.{◌≡◌, ◌≤◌, ◌<◌, ◌*◌, ℕ, [], length, true, map, option_map, is_ok, IfOk, IfErr, IfSome, OnOk, OnErr};
+ghost use Rattle.std.specs.Prelude.{◌≡◌, ◌≤◌, ◌<◌, ◌*◌, ℕ, [], length, true, false, IsTrue, map, option_map, is_ok, IfOk, IfErr, IfSome, OnOk, OnErr};
 ghost use Rattle.pipe_types.specs.Sound.{IsSound};
 ghost use Rattle.core_state.specs.Stands.{Stands};
 ghost use Rattle.stage_bodies.specs.{Seen.{body_at, line_seen}, Jobs.{Both}};
 ghost use Rattle.body_laws.specs.Ready.{IsFilled};
-ghost use Rattle.run_pipe.specs.{Keeping.{IsFresh}, Clocks.{clock_seen}, Ends.{HasEnded}};
+ghost use Rattle.run_pipe.specs.{Keeping.{IsFresh}, Clocks.{clock_seen}, Ends.{HasEnded}, Watches.{HasSeen, KeepsWatch, watch_seen}};
 ghost use Rattle.edge_names.specs.{Supplies.{FeedsProducers, IsUnmerged, at_paces}, Returned.{KeepsCallbacks}};
 ghost use Rattle.rate_laws.specs.Rates.{KeepsRate};
 ghost use Rattle.box_stock.specs.{Homes.{Suffices}, Lends.{AreHandedOut, AreStillThere, IsSameBox, box_at, kinds_of}};
@@ -15,7 +15,7 @@ use box_stock::{Boxed, Carries, Lent, hand_out, take_back};
 use core_state::Core;
 use edge_names::{SeenEdges, Supply, Unopened, give_back, open_or_give_back};
 use pipe_edges::{ByteSource, Clock, Edges, LineSource};
-use pipe_journal::NoWatch;
+use pipe_journal::{NoWatch, Watch};
 use pipe_types::bytes::Text;
 use pipe_types::topology::Topology;
 use rate_gate::GatedSource;
@@ -55,11 +55,14 @@ struct Left<B, K> {
     clock: K,
 }
 
-/// A run, with what is given back of its bodies and its clock.
-struct Went<B, K> {
+/// A run, with what is given back of its bodies, its clock and its watch.
+struct Went<B, K, W> {
     run: Run,
     bodies: Vec<Option<B>>,
     clock: K,
+    watch: W,
+    /// Whether the watch has failed.
+    has_failed: bool,
 }
 
 /// Runs the topology on so many workers, on one at least, with sources by the supply, each in its gate where the topology has a
@@ -158,8 +161,14 @@ fn run_bodies<
     };
     match open_or_give_back(alloc, supply, core.topology(), &mut bodies, edges) {
         Ok(control) => {
-            let Went { run, bodies, clock } = run_opened(
-                rt, alloc, supply, workers, core, control, bodies, edges, clock,
+            let Went {
+                run,
+                bodies,
+                clock,
+                watch: _,
+                has_failed: _,
+            } = run_opened(
+                rt, alloc, supply, workers, core, control, bodies, edges, clock, NoWatch,
             );
             Left {
                 run: Ok(run),
@@ -180,13 +189,14 @@ fn run_bodies<
     }
 }
 
-/// Runs with what was opened, and gives it back.
+/// Runs with what was opened, and gives it back. The watch is shown the journal.
 fn run_opened<
     R: Threads + Wait + Sync,
     E: Edges,
     Q: Supply<E>,
     B: Houses<GatedSource<Q::Source>, E::Sink> + Send,
     K: Clock + Send,
+    W: Watch,
 >(
     rt: &R,
     alloc: Global,
@@ -197,26 +207,34 @@ fn run_opened<
     bodies: Vec<Option<B>>,
     edges: &mut E,
     clock: K,
-) -> Went<B, K>
+    watch: W,
+) -> Went<B, K, W>
     requires stands { Stands core }
     requires empty { core.journal.steps ≡ [] }
     requires filled { IsFilled core.topology (body_at B.look bodies.items) }
     requires fresh { IfSome (option_map (line_seen E.Source.ByteSource) control) IsFresh }
+    requires fits { W.fits watch core.topology }
+    requires unseen { W.stands watch [] }
+    requires unfailed { W.failed watch ≡ false }
     ensures topology { result.run.core.topology ≡ core.topology }
     ensures stands { Stands result.run.core }
     ensures ended { IfOk result.run.end (HasEnded core.topology result.run.core.journal.steps) }
     ensures went { WentOn (at_paces core.topology (Q.feeds supply.now)) (is_ok result.run.end) core.topology result.run.core.journal.steps (body_at B.look bodies.items) (body_at B.look result.bodies.items)
         (option_map (line_seen E.Source.ByteSource) control)
         (⟦<E as SeenEdges>⟧.seen edges.old) (⟦<E as SeenEdges>⟧.seen edges.new) (clock_seen K.latest K.readings K.pauses clock) (clock_seen K.latest K.readings K.pauses result.clock) }
+    ensures seen { HasSeen (W.fits result.watch) (W.stands result.watch) (W.failed result.watch) (IsTrue (is_ok result.run.end)) core.topology result.run.core.journal.steps }
+    ensures kept { KeepsWatch (watch_seen W.begun W.failed W.faults watch) (watch_seen W.begun W.failed W.faults result.watch) }
+    ensures known { result.has_failed ≡ W.failed result.watch }
 {
-    let pipe = Pipe::new(core, bodies, control, clock, NoWatch);
+    let pipe = Pipe::new(core, bodies, control, clock, watch);
     let pipe = run_workers(rt, alloc, workers.max(1), pipe);
     let PipeParts {
         core,
         bodies,
         control,
         clock,
-        watch: _,
+        watch,
+        has_failed,
         end,
     } = pipe.into_parts();
     let end = end.unwrap();
@@ -226,6 +244,8 @@ fn run_opened<
             run: Run { core, end },
             bodies,
             clock,
+            watch,
+            has_failed,
         },
         Err(error) => Went {
             run: Run {
@@ -234,6 +254,8 @@ fn run_opened<
             },
             bodies,
             clock,
+            watch,
+            has_failed,
         },
     }
 }
