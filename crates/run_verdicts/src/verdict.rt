@@ -13,6 +13,9 @@ use program_words::{edge_line, memory_line, stock_line, topology_line, usage_lin
 use std::alloc::{AllocError, Global};
 use topology_needs::Shortage;
 
+/// The status where the sink of live acknowledgements failed.
+const UNFED: u8 = 12;
+
 /// Which texts stand before the report.
 #[derive(Clone, Copy, Drop)]
 pub struct Shows {
@@ -47,14 +50,17 @@ pub struct Texts {
     pub last: Bytes,
 }
 
-/// What a call comes to: a refusal, or texts with a status.
+/// What a call comes to: a refusal, or texts with a status. Where the sink of live acknowledgements failed, it is the texts, and
+/// then the line of that.
 #[derive(Drop)]
 pub enum Verdict {
     Refused(Refusal),
     Done { texts: Texts, status: u8 },
+    Unfed { texts: Texts, line: Bytes },
 }
 
-/// Writes the texts or the refusal, and answers the status: 9 where memory was wanting, 8 where a write failed.
+/// Writes the texts, or the refusal, or both the texts and that the live sink failed, and answers the status: 9 where memory was
+/// wanting, 8 where a write failed.
 pub fn write_verdict<K: ByteSink>(alloc: Global, verdict: &Verdict, out: &mut K, err: &mut K) -> u8
     ensures status { (result ≡ status_in verdict.now) ⊎ ((result ≡ 8) ⊎ (result ≡ 9)) }
     ensures wanting { verdict.now ≡ Verdict.Refused Refusal.Memory → result ≡ 9 }
@@ -69,6 +75,10 @@ pub fn write_verdict<K: ByteSink>(alloc: Global, verdict: &Verdict, out: &mut K,
 {
     match verdict {
         Verdict::Done { texts, status } => put_texts(out, texts, *status),
+        Verdict::Unfed { texts, line } => match put_texts(out, texts, UNFED) {
+            UNFED => put_line(err, line, UNFED),
+            failed => failed,
+        },
         Verdict::Refused(refusal) => match refusal_line(alloc, refusal) {
             Ok(line) => put_line(err, &line, status_of(refusal)),
             Err(_) => 9,
