@@ -12,7 +12,8 @@ use Rattle.stage_bodies.specs.Seen.{SourceSeen, LineSeen, BodySeen}
 use Rattle.run_pipe.specs.Keeping.{KeepsControlOn, KeepsControlPartly}
 use Rattle.run_pipe.proofs.Kept.{kept_partly}
 use Rattle.run_pipe.specs.Clocks.{ClockSeen, KeepsClockOn, KeepsClockPartly}
-use Rattle.run_pipe.specs.Ends.{HasEnded}
+use Rattle.run_pipe.specs.Ends.{HasEnded, HasMemory}
+use Rattle.run_pipe.specs.Watches.{HasSeen}
 use Rattle.run_pipe.specs.declared.ends.RunEnd.{RunEnd}
 use Rattle.run_pipe.specs.declared.ends.RunEnd.TheVariants.{Drained, Halted}
 use Rattle.run_pipe.specs.Seen.{PipeState}
@@ -81,6 +82,17 @@ pub ran_to : (o opened p final : PipeState) (end : Result RunEnd AllocError) →
 ran_to o opened p final end first last is ran =
     subst (λ (e : Option (Result RunEnd AllocError)). IsSomeAnd e (HasRun opened final)) is
     (subst (λ (z : PipeState × PipeState). IsSomeAnd z.1.end (HasRun z.0 z.1)) (λ i. (first i, last i)) ran)
+
+-- ---- the watch
+
+memory_in : (o : Option (Result RunEnd AllocError)) (r : Result RunEnd AllocError) → o ≡ Some r → IsTrue (is_ok r) → HasMemory o
+memory_in o (Ok end) e whole = subst HasMemory (sym e) tt
+memory_in o (Err error) e whole = not_whole whole
+
+-- what the watch of a pipe has seen it has seen of its run
+pub seen_in : (fits : Topology → Type 0) (stood : History → Type 0) (failed : Bool) (o : Option (Result RunEnd AllocError)) (r whole : Result RunEnd AllocError) (topology same : Topology) (steps : History) → o ≡ Some r
+    → (IsTrue (is_ok whole) → IsTrue (is_ok r)) → topology ≡ same → HasSeen fits stood failed (HasMemory o) topology steps → HasSeen fits stood failed (IsTrue (is_ok whole)) same steps
+seen_in fits stood failed o r whole topology same steps is ends e h = record { fit = subst fits e h.fit; part = h.part; all = λ sound w. h.all sound (memory_in o r is (ends w)) }
 
 -- ---- the whole
 

@@ -11,6 +11,7 @@ use Rattle.pipe_types.specs.Stages.{spec_of}
 use Rattle.pipe_model.specs.History.{History}
 use Rattle.pipe_model.specs.Outside.{fed, source_end, sink_text}
 use Rattle.pipe_edges.specs.declared.edges.EdgeKind.{EdgeKind}
+use Rattle.pipe_edges.specs.declared.edges.EdgeKind.TheVariants.{Sink}
 use Rattle.source_lines.specs.Cut.{AreFirstLines, AreAllLines, AreLinesBeforeLong}
 use Rattle.pipe_laws.specs.Read.{quiets}
 use Rattle.stage_job.specs.Chunks.{RoseBy}
@@ -199,6 +200,39 @@ abbrev pub IsOpenedInPart : Feeds → Topology → (rest : List (EdgeKind × Lis
 IsOpenedInPart feeds topology rest old new =
     IsControlCut feeds topology rest old new
     ⊎ ((start : ℕ → Option BodySeen) × AreHandedOut topology start × IsStageCut feeds topology start rest old new)
+
+-- all that the topology names was opened, and went back unread and unwritten, the control source first
+pub record IsAllUnused (feeds : Feeds) (topology : Topology) (old new : EdgesSeen) : Type 0 where
+  pub control : Option LineSeen
+  pub unread : HasSource old (control_call topology.control) None control
+  pub start : ℕ → Option BodySeen
+  pub handed : AreHandedOut topology start
+  pub bodies : ℕ → Option BodySeen
+  pub opened : AreOpened feeds topology (length topology.stages) old start bodies
+  pub inner : List (List ℕ × SourceSeen)
+  pub ungated : AreInner (named_control topology.control control ++ sources_of feeds topology.stages bodies) inner
+  pub sources : new.sources_back ≡ old.sources_back ++ inner
+  pub sinks : new.sinks_back ≡ old.sinks_back ++ sinks_of feeds topology.stages bodies
+
+-- the same where memory was wanting at the live sink, of whose calls these are still to come, or behind it: of what the topology names the
+-- first parts went back, and then, or before it, the live sink, if it was opened, or it was let go
+pub record IsAllOpenedInPart (feeds : Feeds) (topology : Topology) (more rest : List (EdgeKind × List ℕ)) (old new : EdgesSeen) : Type 0 where
+  pub made : List (EdgeKind × List ℕ)
+  pub parts_made : more ≡ made ++ rest
+  pub control : Option LineSeen
+  pub unread : HasSource old (control_call topology.control) None control
+  pub start : ℕ → Option BodySeen
+  pub handed : AreHandedOut topology start
+  pub bodies : ℕ → Option BodySeen
+  pub opened : AreOpened feeds topology (length topology.stages) old start bodies
+  pub parts : ℕ
+  pub of_next : ℕ
+  pub inner : List (List ℕ × SourceSeen)
+  pub ungated : AreInner (first_sources feeds parts of_next topology control bodies) inner
+  pub live_back : List (List ℕ × SinkSeen)
+  pub which : (live_back ≡ []) ⊎ ((n : List ℕ) × (sink : SinkSeen) × (live_back ≡ (n, sink) ∷ []) × (made ≡ (Sink, n) ∷ []) × GivesSink old n sink)
+  pub sources : new.sources_back ≡ old.sources_back ++ inner
+  pub sinks : new.sinks_back ≡ old.sinks_back ++ (live_back ++ first_sinks feeds parts topology bodies)
 
 -- these calls by name were made, of edges that tell as before
 pub record AreAsked (calls : List (EdgeKind × List ℕ)) (old new : EdgesSeen) : Type 0 where
