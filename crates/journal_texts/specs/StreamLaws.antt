@@ -1,5 +1,5 @@
 -- Texts that go to a sink one after another.
-use Rattle.std.proofs.Common.{◌≡◌, ℕ, zero, suc, ◌+◌, Bool, true, false, List, [], ◌∷◌, ◌++◌, length, take, refl, sym, ◌∙◌, ap, arith, inl, inr, subst}
+use Rattle.std.proofs.Common.{◌≡◌, ◌≤◌, ℕ, zero, suc, ◌+◌, Bool, true, false, List, [], ◌∷◌, ◌++◌, length, take, refl, sym, ◌∙◌, ap, arith, inl, inr, subst}
 use Rattle.std.specs.Prelude.{IsTrue}
 use Rattle.std.proofs.lemmas.List.{append-nil, append_assoc}
 use Rattle.std.proofs.Math.Seq.{take-nil}
@@ -28,13 +28,13 @@ streams_nothing now = record {
   same_telling = refl;
   faults_stay = omega arith;
   moved = λ is. (is, λ told. record { written = []; held = sym (append-nil now.held); rest = sym (append-nil now.piece) });
-  broke = λ no yes. absurd (both now.failed no yes);
+  broke = λ e f. absurd (both now.failed e f);
   broken = λ is. (is, refl, λ told. refl);
 }
   where
     both : (b : Bool) → b ≡ false → b ≡ true → ⊥
-    both true no yes = cc
-    both false no yes = cc
+    both true e f = cc
+    both false e f = cc
 
 moved_on : (old mid new : StreamSeen) (first second : List ℕ) → Moved old mid first → Moved mid new second → Moved old new (first ++ second)
 moved_on old mid new first second one two = record {
@@ -82,7 +82,7 @@ streams_both old mid new first second one two = record {
       let then = two.moved is in
       let before = one.moved then.0 in
       (before.0, λ told. moved_on old mid new first second (before.1 told) (then.1 (told_on told)));
-  broke = λ no yes. by mid.failed refl no yes;
+  broke = λ e f. by mid.failed refl e f;
   broken = λ is.
       let before = one.broken is in
       let then = two.broken before.0 in
@@ -93,15 +93,15 @@ streams_both old mid new first second one two = record {
     told_on told = subst (λ b. IsTrue b) (sym one.same_telling) told
 
     by : (b : Bool) → mid.failed ≡ b → old.failed ≡ false → new.failed ≡ true → Rose old.faults new.faults × (IsTrue old.told → Begun old.held new.held (old.piece ++ (first ++ second)))
-    by true is no yes =
-        let before = one.broke no is in
+    by true is e f =
+        let before = one.broke e is in
         let then = two.broken is in (
           subst (λ n. Rose old.faults n) (sym then.1.0) before.0,
           λ told.
               begun_on old.held new.held old.piece first second (subst (λ l. Begun old.held l (old.piece ++ first)) (sym (then.1.1 (told_on told))) (before.1 told)),
         )
-    by false is no yes =
-        let then = two.broke is yes in (
+    by false is e f =
+        let then = two.broke is f in (
           then_rose old.faults mid.faults new.faults one.faults_stay then.0,
           λ told.
               begun_after old mid new first second ((one.moved is).1 told) (then.1 (told_on told)),
@@ -113,10 +113,10 @@ streams_broken now text failed = record {
   same_telling = refl;
   faults_stay = omega arith;
   moved = λ is. absurd (both now.failed is failed);
-  broke = λ no yes. absurd (both now.failed no yes);
+  broke = λ e f. absurd (both now.failed e f);
   broken = λ is. (is, refl, λ told. refl);
 }
   where
     both : (b : Bool) → b ≡ false → b ≡ true → ⊥
-    both true no yes = cc
-    both false no yes = cc
+    both true e f = cc
+    both false e f = cc
