@@ -1,6 +1,6 @@
 -- Steps of a stream to a sink of bytes.
-use Rattle.std.proofs.Common.{◌≡◌, ◌≤◌, ℕ, Bool, true, false, not, List, [], ◌++◌, take, refl, sym, ◌∙◌, ap, arith, inl, subst}
-use Rattle.std.specs.Prelude.{IsTrue, Result, Ok, Err, OnOk}
+use Rattle.std.proofs.Common.{◌≡◌, ◌≤◌, ℕ, Bool, true, false, not, List, [], ◌++◌, length, take, take_all, refl, sym, ◌∙◌, ap, arith}
+use Rattle.std.specs.Prelude.{IsTrue}
 use Rattle.std.proofs.lemmas.List.{append-nil}
 use Rattle.pipe_types.specs.Counts.{Rose}
 use Rattle.journal_texts.specs.Streams.{StreamSeen, Moved, Begun, Streams}
@@ -14,15 +14,15 @@ pub written : (told told' : Bool) (held held' : List ℕ) (faults faults' : ℕ)
     → (whole ≡ true → IsTrue told → held' ≡ held ++ text)
     → (whole ≡ false → Rose faults faults' × (IsTrue told → Begun held held' text))
     → Streams (seen told held faults piece before) (seen told' held' faults' piece (not whole)) text
-written told told' held held' faults faults' piece text true whole no empty same stay wrote begun = cc
-written told told' held held' faults faults' piece text false true no empty same stay wrote begun = record {
+written told told' held held' faults faults' piece text true whole start empty same stay wrote begun = cc
+written told told' held held' faults faults' piece text false true start empty same stay wrote begun = record {
   same_telling = same;
   faults_stay = stay;
   moved = λ e. (refl, λ t. record { written = text; held = wrote refl t; rest = rw empty (append-nil text) });
   broke = λ e f. cc;
   broken = λ e. cc;
 }
-written told told' held held' faults faults' piece text false false no empty same stay wrote begun = record {
+written told told' held held' faults faults' piece text false false start empty same stay wrote begun = record {
   same_telling = same;
   faults_stay = stay;
   moved = λ e. cc;
@@ -47,3 +47,45 @@ added told held faults piece piece' text false is = record {
   broke = λ e f. cc;
   broken = λ e. cc;
 }
+
+-- what a whole stream comes to, from an empty piece to an empty piece
+pub record IsStreamed (old new : StreamSeen) (text : List ℕ) : Type 0 where
+  pub told : new.told ≡ old.told
+  pub stay : old.faults ≤ new.faults
+  pub fault : not new.failed ≡ false → Rose old.faults new.faults
+  pub whole : not new.failed ≡ true → IsTrue old.told → new.held ≡ old.held ++ text
+  pub begun : IsTrue old.told → Begun old.held new.held text
+
+not_false : (b : Bool) → not b ≡ false → b ≡ true
+not_false true e = refl
+not_false false e = cc
+
+not_true : (b : Bool) → not b ≡ true → b ≡ false
+not_true true e = cc
+not_true false e = refl
+
+pub streamed : (old mid new : StreamSeen) (text : List ℕ) → Streams old mid text → Streams mid new [] → old.piece ≡ [] → old.failed ≡ false → (new.failed ≡ false → new.piece ≡ [])
+    → IsStreamed old new text
+streamed old mid new text one two empty fresh last = record {
+  told = all.same_telling;
+  stay = all.faults_stay;
+  fault = λ e. (all.broke fresh (not_false new.failed e)).0;
+  whole = λ e t. held_whole (not_true new.failed e) t;
+  begun = λ t. by new.failed refl t;
+}
+  where
+    all : Streams old new (text ++ [])
+    all = streams_both old mid new text [] one two
+
+    held_whole : new.failed ≡ false → IsTrue old.told → new.held ≡ old.held ++ text
+    held_whole e t =
+        let m = (all.moved e).1 t in
+        let piece = last e in
+        m.held ∙ ap (λ l. old.held ++ l) (sym (append-nil m.written) ∙ ap (λ l. m.written ++ l) (sym piece) ∙ m.rest ∙ ap (λ l. l ++ (text ++ [])) empty ∙ append-nil text)
+
+    by : (b : Bool) → new.failed ≡ b → IsTrue old.told → Begun old.held new.held text
+    by true e t =
+        let b = (all.broke fresh e).1 t in
+        record { count = b.count; is = b.is ∙ ap (λ l. old.held ++ take b.count l) (ap (λ l. l ++ (text ++ [])) empty ∙ append-nil text) }
+    by false e t =
+        record { count = length text; is = held_whole e t ∙ ap (λ l. old.held ++ l) (sym (take_all (length text) text (omega arith))) }

@@ -86,7 +86,7 @@ streams_both old mid new first second one two = record {
   broken = λ is.
       let before = one.broken is in
       let then = two.broken before.0 in
-      (then.0, then.1.0 ∙ before.1.0, λ told. then.1.1 (told_on told) ∙ before.1.1 told);
+      (then.0, then.1 ∙ before.1, λ told. then.2 (told_on told) ∙ before.2 told);
 }
   where
     told_on : IsTrue old.told → IsTrue mid.told
@@ -96,9 +96,9 @@ streams_both old mid new first second one two = record {
     by true is e f =
         let before = one.broke e is in
         let then = two.broken is in (
-          subst (λ n. Rose old.faults n) (sym then.1.0) before.0,
+          subst (λ n. Rose old.faults n) (sym then.1) before.0,
           λ told.
-              begun_on old.held new.held old.piece first second (subst (λ l. Begun old.held l (old.piece ++ first)) (sym (then.1.1 (told_on told))) (before.1 told)),
+              begun_on old.held new.held old.piece first second (subst (λ l. Begun old.held l (old.piece ++ first)) (sym (then.2 (told_on told))) (before.1 told)),
         )
     by false is e f =
         let then = two.broke is f in (

@@ -37,7 +37,7 @@ use Rattle.run_verdicts.specs.declared.verdict.Verdict.TheVariants.{Refused, Don
 -- the texts are the journal's, and so is the status
 pub record IsReport (shows : Shows) (topology : Topology) (before : History) (texts : Texts) (status : ℕ) : Type 0 where
   pub ended : IsEnded topology before status
-  pub by_journal : whole_text texts ≡ run_text shows topology before
+  pub by_journal : whole_text before texts ≡ run_text shows topology before
 
 -- the verdict of a run that came to its end: its report, unless memory was wanting
 abbrev pub IsJudgement : Verdict → Shows → Topology → History → Type 0
@@ -61,7 +61,7 @@ IsEarly fails topology before verdict = ⊥
 pub record IsChecked (wanted : Topology) (topology : Option Topology) (before : History) (verdict : Verdict) : Type 0 where
   pub texts : Texts
   pub counted : verdict ≡ Done texts 0
-  pub counts : whole_text texts ≡ counts_line (length wanted.stages) (subscriptions_of wanted)
+  pub counts : whole_text before texts ≡ counts_line (length wanted.stages) (subscriptions_of wanted)
   pub own : topology ≡ Some wanted
   pub run : IsRun wanted before
   pub no_step : before ≡ []
@@ -74,7 +74,7 @@ IsCheckedOrNot wanted topology before verdict = IsRefusedBy Memory topology befo
 pub record IsUpgraded (file text : List ℕ) (wanted : Topology) (topology : Option Topology) (before : History) (verdict : Verdict) : Type 0 where
   pub texts : Texts
   pub counted : verdict ≡ Done texts 0
-  pub counts : whole_text texts ≡ text
+  pub counts : whole_text before texts ≡ text
   pub upgrade : IsUpgrade file text
   pub own : topology ≡ Some wanted
   pub run : IsRun wanted before
@@ -84,7 +84,7 @@ pub record IsUpgraded (file text : List ℕ) (wanted : Topology) (topology : Opt
 pub record IsAudited (summary : Summary) (wanted : Topology) (topology : Option Topology) (before : History) (verdict : Verdict) : Type 0 where
   pub texts : Texts
   pub counted : verdict ≡ Done texts 0
-  pub counts : whole_text texts ≡ legal_text summary
+  pub counts : whole_text before texts ≡ legal_text summary
   pub own : topology ≡ Some wanted
   pub run : IsRun wanted before
   pub no_step : before ≡ []

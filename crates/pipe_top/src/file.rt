@@ -71,7 +71,7 @@ pub(crate) fn checked<C, K>(alloc: Global, topology: Topology, stock: Vec<C>, cl
         Ok(last) => Ran {
             verdict: Verdict::Done {
                 texts: Texts {
-                    steps: None,
+                    steps: false,
                     acks: None,
                     last,
                 },
@@ -144,7 +144,7 @@ pub(crate) fn finish_upgrade<C, K>(
     Ran {
         verdict: Verdict::Done {
             texts: Texts {
-                steps: None,
+                steps: false,
                 acks: None,
                 last: text,
             },
