@@ -1,9 +1,10 @@
 -- Steps of a stream to a sink of bytes.
 use Rattle.std.proofs.Common.{◌≡◌, ◌≤◌, ℕ, Bool, true, false, not, List, [], ◌++◌, length, take, take_all, refl, sym, ◌∙◌, ap, arith}
-use Rattle.std.specs.Prelude.{IsTrue}
+use Rattle.std.specs.Prelude.{IsTrue, if◌then◌else◌, Result, Ok, Err}
+use Rattle.std.specs.Result.{is_ok, is_err}
 use Rattle.std.proofs.lemmas.List.{append-nil}
 use Rattle.pipe_types.specs.Counts.{Rose}
-use Rattle.journal_texts.specs.Streams.{StreamSeen, Moved, Begun, Streams}
+use Rattle.journal_texts.specs.Streams.{StreamSeen, Moved, Begun, Streams, IsStreamed}
 use Rattle.journal_texts.specs.StreamLaws.{streams_both}
 
 abbrev seen : Bool → List ℕ → ℕ → List ℕ → Bool → StreamSeen
@@ -48,14 +49,6 @@ added told held faults piece piece' text false is = record {
   broken = λ e. cc;
 }
 
--- what a whole stream comes to, from an empty piece to an empty piece
-pub record IsStreamed (old new : StreamSeen) (text : List ℕ) : Type 0 where
-  pub told : new.told ≡ old.told
-  pub stay : old.faults ≤ new.faults
-  pub fault : not new.failed ≡ false → Rose old.faults new.faults
-  pub whole : not new.failed ≡ true → IsTrue old.told → new.held ≡ old.held ++ text
-  pub begun : IsTrue old.told → Begun old.held new.held text
-
 not_false : (b : Bool) → not b ≡ false → b ≡ true
 not_false true e = refl
 not_false false e = cc
@@ -65,27 +58,44 @@ not_true true e = cc
 not_true false e = refl
 
 pub streamed : (old mid new : StreamSeen) (text : List ℕ) → Streams old mid text → Streams mid new [] → old.piece ≡ [] → old.failed ≡ false → (new.failed ≡ false → new.piece ≡ [])
-    → IsStreamed old new text
+    → IsStreamed old new text (not new.failed)
 streamed old mid new text one two empty fresh last = record {
-  told = all.same_telling;
-  stay = all.faults_stay;
-  fault = λ e. (all.broke fresh (not_false new.failed e)).0;
-  whole = λ e t. held_whole (not_true new.failed e) t;
+  told = both.same_telling;
+  stay = both.faults_stay;
+  fault = λ e. (both.broke fresh (not_false new.failed e)).0;
+  all = λ e t. held_whole (not_true new.failed e) t;
   begun = λ t. by new.failed refl t;
 }
   where
-    all : Streams old new (text ++ [])
-    all = streams_both old mid new text [] one two
+    both : Streams old new (text ++ [])
+    both = streams_both old mid new text [] one two
 
     held_whole : new.failed ≡ false → IsTrue old.told → new.held ≡ old.held ++ text
     held_whole e t =
-        let m = (all.moved e).1 t in
+        let m = (both.moved e).1 t in
         let piece = last e in
         m.held ∙ ap (λ l. old.held ++ l) (sym (append-nil m.written) ∙ ap (λ l. m.written ++ l) (sym piece) ∙ m.rest ∙ ap (λ l. l ++ (text ++ [])) empty ∙ append-nil text)
 
     by : (b : Bool) → new.failed ≡ b → IsTrue old.told → Begun old.held new.held text
     by true e t =
-        let b = (all.broke fresh e).1 t in
+        let b = (both.broke fresh e).1 t in
         record { count = b.count; is = b.is ∙ ap (λ l. old.held ++ take b.count l) (ap (λ l. l ++ (text ++ [])) empty ∙ append-nil text) }
     by false e t =
         record { count = length text; is = held_whole e t ∙ ap (λ l. old.held ++ l) (sym (take_all (length text) text (omega arith))) }
+
+-- where there was memory the text stands behind the piece, and else the piece is as it was
+pub extended : {A E : Type 0} (result : Result A E) (is_wanting : Bool) (piece text items : List ℕ) → items ≡ (if is_ok result then piece ++ text else piece) → is_wanting ≡ is_err result → is_wanting ≡ false
+    → items ≡ piece ++ text
+extended (Ok x) is_wanting piece text items is flag none = is
+extended (Err e) true piece text items is flag none = cc
+extended (Err e) false piece text items is flag none = cc
+
+pub unextended : {A E : Type 0} (result : Result A E) (is_wanting : Bool) (piece text items : List ℕ) → items ≡ (if is_ok result then piece ++ text else piece) → is_wanting ≡ is_err result → is_wanting ≡ true
+    → items ≡ piece
+unextended (Err e) is_wanting piece text items is flag some = is
+unextended (Ok x) true piece text items is flag some = cc
+unextended (Ok x) false piece text items is flag some = cc
+
+pub same_piece : (told : Bool) (held : List ℕ) (faults : ℕ) (piece items : List ℕ) (failed : Bool) (new : StreamSeen) (text : List ℕ) → items ≡ piece → Streams (seen told held faults items failed) new text
+    → Streams (seen told held faults piece failed) new text
+same_piece told held faults piece items failed new text is s = rw is at s

@@ -28,3 +28,11 @@ pub record Streams (old new : StreamSeen) (text : List ℕ) : Type 0 where
   pub moved : new.failed ≡ false → (old.failed ≡ false) × (IsTrue old.told → Moved old new text)
   pub broke : old.failed ≡ false → new.failed ≡ true → Rose old.faults new.faults × (IsTrue old.told → Begun old.held new.held (old.piece ++ text))
   pub broken : old.failed ≡ true → (new.failed ≡ true) × (new.faults ≡ old.faults) × (IsTrue old.told → new.held ≡ old.held)
+
+-- what a whole text came to, from an empty piece to an empty piece: all of it was written, or a front before a fault
+pub record IsStreamed (old new : StreamSeen) (text : List ℕ) (whole : Bool) : Type 0 where
+  pub told : new.told ≡ old.told
+  pub stay : old.faults ≤ new.faults
+  pub fault : whole ≡ false → Rose old.faults new.faults
+  pub all : whole ≡ true → IsTrue old.told → new.held ≡ old.held ++ text
+  pub begun : IsTrue old.told → Begun old.held new.held text

@@ -2,7 +2,7 @@
 
 ghost use Rattle.std.specs.Prelude.{◌≡◌, ◌≤◌, ◌++◌, [], false, true, IsTrue};
 ghost use Rattle.pipe_types.specs.Counts.{Rose};
-ghost use Rattle.journal_texts.specs.Streams.{Begun};
+ghost use Rattle.journal_texts.specs.{Streams.{Begun, IsStreamed}, StreamsOf.{stream_seen}};
 ghost use Rattle.journal_texts.specs.Steps.{journal_text as text_of_journal};
 
 use crate::lines::put_journal;
@@ -116,6 +116,17 @@ impl<'a, K: ByteSink> TextSink for TextStream<'a, K> {
     ghost together = { λ old mid new first second. puts_both K.ByteSink old mid new first second };
 }
 
+// Streams the text of a journal, and answers whether all of it was written.
+fn stream_journal<K: ByteSink>(out: &mut TextStream<'_, K>, journal: &Journal) -> bool
+    requires fresh { (out.old.piece.items ≡ []) × (out.old.failed ≡ false) }
+    ensures same_reference { out.new.sink.ghost_name ≡ out.old.sink.ghost_name }
+    ensures streamed { IsStreamed (stream_seen K.ByteSink out.old) (stream_seen K.ByteSink out.new) (text_of_journal journal.now.steps) result }
+{
+    put_journal(out, journal);
+    out.flush();
+    !out.failed
+}
+
 /// Writes the text of a journal in pieces, and answers whether all of it was written. It needs no memory: where there is none
 /// for a piece, its parts are written one by one.
 pub fn write_journal<K: ByteSink>(alloc: Global, sink: &mut K, journal: &Journal) -> bool
@@ -126,7 +137,5 @@ pub fn write_journal<K: ByteSink>(alloc: Global, sink: &mut K, journal: &Journal
     ensures begun { IsTrue (K.told sink.old) → Begun (K.held sink.old) (K.held sink.new) (text_of_journal journal.now.steps) }
 {
     let mut out = TextStream::new(alloc, sink);
-    put_journal(&mut out, journal);
-    out.flush();
-    !out.failed
+    stream_journal(&mut out, journal)
 }
