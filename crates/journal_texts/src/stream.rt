@@ -18,7 +18,7 @@ const PIECE: usize = 8192;
 #[derive(Drop)]
 struct TextStream<'a, K> {
     sink: &'a mut K,
-    piece: Vec<u8>,
+    piece: &'a mut Vec<u8>,
     failed: bool,
 }
 
@@ -42,22 +42,10 @@ fn write_bytes<K: ByteSink>(sink: &mut K, bytes: &[u8]) -> bool
 impl<'a, K: ByteSink> TextStream<'a, K> {
     ghost use Rattle.journal_texts.specs.StreamsOf.{PutsOn};
 
-    fn new(alloc: Global, sink: &'a mut K) -> TextStream<'a, K>
-        ensures same_reference { result.sink.ghost_name ≡ sink.entry.ghost_name }
-        ensures same_sink { result.sink.now ≡ sink.old }
-        ensures fresh { (result.piece.items ≡ []) × (result.failed ≡ false) }
-    {
-        TextStream {
-            sink,
-            piece: Vec::new(alloc),
-            failed: false,
-        }
-    }
-
     // Writes the piece.
     fn flush(&mut self)
         ensures puts { PutsOn K.ByteSink self.old self.new [] }
-        ensures empty { self.new.failed ≡ false → self.new.piece.items ≡ [] }
+        ensures empty { self.new.failed ≡ false → self.new.piece.now.items ≡ [] }
     {
         if !self.failed {
             self.failed = !write_bytes(self.sink, self.piece.as_slice());
@@ -118,8 +106,9 @@ impl<'a, K: ByteSink> TextSink for TextStream<'a, K> {
 
 // Streams the text of a journal, and answers whether all of it was written.
 fn stream_journal<K: ByteSink>(out: &mut TextStream<'_, K>, journal: &Journal) -> bool
-    requires fresh { (out.old.piece.items ≡ []) × (out.old.failed ≡ false) }
+    requires fresh { (out.old.piece.now.items ≡ []) × (out.old.failed ≡ false) }
     ensures same_reference { out.new.sink.ghost_name ≡ out.old.sink.ghost_name }
+    ensures same_piece { out.new.piece.ghost_name ≡ out.old.piece.ghost_name }
     ensures streamed { IsStreamed (stream_seen K.ByteSink out.old) (stream_seen K.ByteSink out.new) (text_of_journal journal.now.steps) result }
 {
     put_journal(out, journal);
@@ -136,6 +125,11 @@ pub fn write_journal<K: ByteSink>(alloc: Global, sink: &mut K, journal: &Journal
     ensures whole { result ≡ true → IsTrue (K.told sink.old) → K.held sink.new ≡ K.held sink.old ++ text_of_journal journal.now.steps }
     ensures begun { IsTrue (K.told sink.old) → Begun (K.held sink.old) (K.held sink.new) (text_of_journal journal.now.steps) }
 {
-    let mut out = TextStream::new(alloc, sink);
+    let mut piece = Vec::new(alloc);
+    let mut out = TextStream {
+        sink,
+        piece: &mut piece,
+        failed: false,
+    };
     stream_journal(&mut out, journal)
 }

@@ -9,6 +9,7 @@ returns-then-not-self g c =
     record {
       puts = puts_both g.K.ByteSink c.args.self.now c.flush.new.self _ [] c.args.text.now c.flush.ensures.puts (record {
         same_reference = refl;
-        streams = written _ _ _ _ _ _ c.flush.new.self.piece.items c.args.text.now c.flush.new.self.failed c.write_bytes.result c.if-not-self.true (c.flush.ensures.empty c.if-not-self.true) w.same_telling w.faults_stay w.whole w.begun;
+        same_piece = refl;
+        streams = written _ _ _ _ _ _ c.flush.new.self.piece.now.items c.args.text.now c.flush.new.self.failed c.write_bytes.result c.if-not-self.true (c.flush.ensures.empty c.if-not-self.true) w.same_telling w.faults_stay w.whole w.begun;
       });
     }
