@@ -4,7 +4,7 @@ use Rattle.std.specs.Prelude.{IsTrue, if◌then◌else◌, Result, Ok, Err}
 use Rattle.std.specs.Result.{is_ok, is_err}
 use Rattle.std.proofs.lemmas.List.{append-nil}
 use Rattle.pipe_types.specs.Counts.{Rose}
-use Rattle.journal_texts.specs.Streams.{StreamSeen, Moved, Begun, Streams, IsStreamed}
+use Rattle.journal_texts.specs.Streams.{StreamSeen, Begun, Streams, IsStreamed}
 use Rattle.journal_texts.specs.StreamLaws.{streams_both}
 
 abbrev seen : Bool → List ℕ → ℕ → List ℕ → Bool → StreamSeen

@@ -1,5 +1,5 @@
 -- A text that goes to a sink of bytes in pieces.
-use Rattle.std.specs.Prelude.{◌≡◌, ◌≤◌, ℕ, Bool, true, false, IsTrue, List, [], ◌++◌, take}
+use Rattle.std.specs.Prelude.{◌≡◌, ◌≤◌, ℕ, Bool, true, false, IsTrue, List, ◌++◌, take}
 use Rattle.pipe_types.specs.Counts.{Rose}
 
 -- a sink, and the piece that is not written yet

@@ -1,4 +1,4 @@
-use Rattle.std.proofs.Common.{◌≡◌, ◌++◌, take}
+use Rattle.std.proofs.Common.{take}
 use Rattle.std.specs.List.{flat_map}
 use Rattle.journal_texts.specs.Words.{byte_text}
 use Rattle.journal_texts.proofs.items.put_digits.Given as goal

@@ -1,4 +1,4 @@
-use Rattle.std.proofs.Common.{◌≡◌, ◌++◌, take}
+use Rattle.std.proofs.Common.{take}
 use Rattle.journal_texts.specs.Words.{more_text}
 use Rattle.journal_texts.specs.Steps.{outcome_text}
 use Rattle.journal_texts.proofs.items.put_more_outcomes.Given as goal

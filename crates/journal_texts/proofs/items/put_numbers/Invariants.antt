@@ -1,4 +1,4 @@
-use Rattle.std.proofs.Common.{◌≡◌, ◌++◌, take}
+use Rattle.std.proofs.Common.{take}
 use Rattle.std.specs.List.{flat_map}
 use Rattle.journal_texts.specs.Words.{number_word}
 use Rattle.journal_texts.proofs.items.put_numbers.Given as goal

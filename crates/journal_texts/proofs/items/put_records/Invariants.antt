@@ -1,4 +1,4 @@
-use Rattle.std.proofs.Common.{◌≡◌, ◌++◌, take}
+use Rattle.std.proofs.Common.{take}
 use Rattle.pipe_journal.specs.Items.{records_seen}
 use Rattle.journal_texts.specs.Words.{list_text, bytes_text}
 use Rattle.journal_texts.proofs.items.put_records.Given as goal

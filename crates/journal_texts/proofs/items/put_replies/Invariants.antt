@@ -1,4 +1,4 @@
-use Rattle.std.proofs.Common.{◌≡◌, ◌++◌, take}
+use Rattle.std.proofs.Common.{take}
 use Rattle.pipe_journal.specs.Items.{replies_seen}
 use Rattle.journal_texts.specs.Words.{list_text}
 use Rattle.journal_texts.specs.Steps.{reply_text}

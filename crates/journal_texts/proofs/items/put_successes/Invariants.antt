@@ -1,4 +1,3 @@
-use Rattle.std.proofs.Common.{◌≡◌, ◌++◌}
 use Rattle.std.specs.Prelude.{replicate}
 use Rattle.pipe_types.specs.declared.message.Outcome.TheVariants.{Successful}
 use Rattle.journal_texts.specs.Words.{list_text}

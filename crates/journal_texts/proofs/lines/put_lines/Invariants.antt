@@ -1,4 +1,4 @@
-use Rattle.std.proofs.Common.{◌≡◌, ◌++◌, take, reverse}
+use Rattle.std.proofs.Common.{take, reverse}
 use Rattle.std.specs.List.{flat_map}
 use Rattle.journal_texts.specs.Steps.{step_line}
 use Rattle.journal_texts.proofs.lines.put_lines.Given as goal
