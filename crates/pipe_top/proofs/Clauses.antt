@@ -624,14 +624,14 @@ status_says case fails topology before (Refused (Audit fault)) status o is wanti
 
 unfed_by : (feeds : Feeds) (name : List ℕ) (memory : Type 0) (says : Bool → Type 0) (wanted : Topology) (before : History) (old new : OutsideSeen) → (used : HasUsed feeds (Some name) memory says wanted before old new)
     → (memory → ⊥) → used.unfed ≡ Bool.true → IsUnfedBy name new.edges
-unfed_by feeds name memory says wanted before old new used never is = by_last used.outside.live.last
+unfed_by feeds name memory says wanted before old new used never is = by_last used.outside.sink.last
   where
-    by_last : (new.edges.sinks_back ≡ used.outside.middle.sinks_back ++ (name, used.outside.live.sink) ∷ []) ⊎ ((used.whole ≡ Bool.false) × (new.edges.sinks_back ≡ used.outside.middle.sinks_back)) → IsUnfedBy name new.edges
+    by_last : (new.edges.sinks_back ≡ used.outside.middle.sinks_back ++ (name, used.outside.sink.sink) ∷ []) ⊎ ((used.whole ≡ Bool.false) × (new.edges.sinks_back ≡ used.outside.middle.sinks_back)) → IsUnfedBy name new.edges
     by_last (inl last) = record {
       front = used.outside.middle.sinks_back;
-      sink = used.outside.live.sink;
+      sink = used.outside.sink.sink;
       last = last;
-      fault = used.outside.live.fault is;
+      fault = used.outside.sink.fault is;
     }
     by_last (inr none) = absurd (never (used.wanting none.0))
 

@@ -105,7 +105,7 @@ share_read seed count topology before old new whole sound few outside p role =
 pub middle_of : (feeds : Feeds) (whole : Bool) (topology : Topology) (before : History) (live : Option (List ℕ)) (text : List ℕ) (unfed : Bool) (old new : EdgesSeen) → IsOutsideWith feeds whole topology before live text unfed old new
     → (middle : EdgesSeen) × IsOutside feeds whole topology before old middle × (new.sources_back ≡ middle.sources_back)
 middle_of feeds whole topology before None text unfed old new outside = (new, outside, refl)
-middle_of feeds whole topology before (Some name) text unfed old new outside = (outside.middle, outside.outside, outside.live.sources)
+middle_of feeds whole topology before (Some name) text unfed old new outside = (outside.middle, outside.outside, outside.sink.sources)
 
 shares_read : (seed count : ℕ) (live : Option (List ℕ)) (memory : Type 0) (says : Bool → Type 0) (wanted : Topology) (before : History) (old new : OutsideSeen) → IsSound wanted → count < 2 ^ 32
     → HasUsed (feeds_of (MadeFrom seed count) wanted) live memory says wanted before old new → ReadShares memory seed count wanted before

@@ -17,7 +17,7 @@ returns-in-Ok g c =
     let r = c.run_or_refuse in
     let w = c.args.words in
     record {
-      came = run_came _ _ _ _ w.topology.now w.workers w.acks w.steps c.in-Ok.topology r.result.topology r.result.journal.steps r.result.verdict c.in-Ok.ensures
+      came = run_came _ _ _ _ w.topology.now w.workers w.acks w.steps _ c.in-Ok.topology r.result.topology r.result.journal.steps r.result.verdict c.in-Ok.ensures
           (r.ensures.comes Filed (record { is = ap by_name c.of_file-supply.ensures; few = tt }));
     }
 
@@ -26,6 +26,6 @@ returns-in-Err g c =
     let r = c.refused in
     let w = c.args.words in
     record {
-      came = run_unread _ _ _ w.topology.now w.workers w.acks w.steps c.in-Err.refusal r.result.topology r.result.journal.steps r.result.verdict c.in-Err.ensures r.ensures.verdict r.ensures.no_run
+      came = run_unread _ _ _ w.topology.now w.workers w.acks w.steps _ c.in-Err.refusal r.result.topology r.result.journal.steps r.result.verdict c.in-Err.ensures r.ensures.verdict r.ensures.no_run
           (rw r.ensures.same_clock refl) (rw r.ensures.same_boxes refl);
     }
