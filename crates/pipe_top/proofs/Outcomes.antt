@@ -101,6 +101,10 @@ out_of {shows} {live} {topology} {before} {verdict} v = by_which v.which
     by_which (inl d) = ap out_text_of d.1 ∙ v.by_journal
     by_which (inr u) = ap out_text_of u.1 ∙ v.by_journal
 
+unfed_line : (verdict : Verdict) (texts : Texts) (name : List ℕ) (live : Option (List ℕ)) → verdict ≡ Unfed texts (feed_line name) → live ≡ Some name
+    → err_text_of verdict ≡ (if nat_le (status_in verdict) 4 then [] else live_line live)
+unfed_line verdict texts name live v l = rw (v, l) refl
+
 -- and its line that of the live sink, where it failed
 pub err_of : {shows : Shows} {live : Option (List ℕ)} {topology : Topology} {before : History} {verdict : Verdict} → Reported shows live topology before verdict
     → err_text_of verdict ≡ (if nat_le (status_in verdict) 4 then [] else live_line live)
@@ -111,7 +115,7 @@ err_of {shows} {live} {topology} {before} {verdict} v = by_which v.which
 
     by_which : IsDone topology before verdict v.texts ⊎ IsUnfedWith live verdict v.texts → err_text_of verdict ≡ (if nat_le (status_in verdict) 4 then [] else live_line live)
     by_which (inl d) = ap err_text_of d.1 ∙ small (status_in verdict) (done_few d)
-    by_which (inr u) = rw (u.1, u.2) refl
+    by_which (inr u) = unfed_line verdict v.texts u.0 live u.1 u.2
 
 -- it is no refusal
 pub is_reported : {shows : Shows} {live : Option (List ℕ)} {topology : Topology} {before : History} {verdict : Verdict} → Reported shows live topology before verdict → verdict ≡ Refused Memory → ⊥

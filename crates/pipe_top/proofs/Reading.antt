@@ -1,5 +1,5 @@
 -- What a call comes to after its topology file was read, or where none is.
-use Rattle.std.proofs.Common.{◌≡◌, ℕ, zero, suc, ◌≤◌, List, [], ◌∷◌, ◌++◌, take, Bool, Option, Some, None, Result, Ok, Err, refl, sym, ◌∙◌, ap, inl, inr, arith}
+use Rattle.std.proofs.Common.{◌≡◌, ℕ, zero, suc, ◌≤◌, List, [], ◌∷◌, ◌++◌, take, Bool, Option, Some, None, Result, Ok, Err, refl, sym, ◌∙◌, ap, subst, inl, inr, arith}
 use Rattle.std.specs.Prelude.{IsTrue}
 use Rattle.std.proofs.lemmas.List.{append-nil}
 use Rattle.std.proofs.Math.Seq.{take-nil}
@@ -291,17 +291,19 @@ audit_unread old new boxes journal name refusal topology before verdict r is non
   comes = unread old new (audit_case journal (Err Large)) name refusal topology before verdict is none (untouched old new name (Err refusal) r clock same) r;
 }
 
-pub run_came : (old : OutsideSeen) (middle : EdgesSeen) (new : OutsideSeen) (boxes : Boxes) (name : List ℕ) (workers : ℕ) (acks steps : Bool) (live : Option (List ℕ)) (wanted : Topology) (topology : Option Topology) (before : History) (verdict : Verdict)
-    → ReadsFile old.edges middle name topology_of_file (Ok wanted)
+pub run_came : (old : OutsideSeen) (middle : EdgesSeen) (new : OutsideSeen) (boxes : Boxes) (name : List ℕ) (workers : ℕ) (acks steps : Bool) (live named : Option (List ℕ)) (wanted : Topology) (topology : Option Topology) (before : History) (verdict : Verdict)
+    → live ≡ named → ReadsFile old.edges middle name topology_of_file (Ok wanted)
     → ComesBy (record old { edges = middle }) new (run_case boxes (record { steps = steps; acks = acks }) live Filed wanted)
     (opening_calls (run_case boxes (record { steps = steps; acks = acks }) live Filed wanted)) topology before verdict
-    → Came old new (Some (Run name workers acks steps live)) boxes topology before verdict
-run_came old middle new boxes name workers acks steps live wanted topology before verdict r x = record {
+    → Came old new (Some (Run name workers acks steps named)) boxes topology before verdict
+run_came old middle new boxes name workers acks steps live named wanted topology before verdict is r x = record {
   file = r.file;
   text = [];
   found = Err Large;
   is_file = r.is_file;
-  comes = loaded old middle new (run_case boxes (record { steps = steps; acks = acks }) live Filed) name wanted topology before verdict r x;
+  comes = loaded old middle new (run_case boxes (record { steps = steps; acks = acks }) named Filed) name wanted topology before verdict r
+      (subst (λ (o : Option (List ℕ)). ComesBy (record old { edges = middle }) new (run_case boxes (record { steps = steps; acks = acks }) o Filed wanted)
+      (opening_calls (run_case boxes (record { steps = steps; acks = acks }) o Filed wanted)) topology before verdict) is x);
 }
 
 pub run_unread : (old new : OutsideSeen) (boxes : Boxes) (name : List ℕ) (workers : ℕ) (acks steps : Bool) (live : Option (List ℕ)) (refusal : Refusal) (topology : Option Topology) (before : History) (verdict : Verdict)
