@@ -8,6 +8,8 @@ mod Callbacks
 mod Stocks
 mod Calls
 mod Runs
+mod LiveSinks
+mod Unlive
 mod Wholes
 mod Rates
 mod Ungated
