@@ -4,6 +4,7 @@ pub mod Completes
 pub mod Drains
 pub mod Ends
 pub mod Feeding
+pub mod Judging
 pub mod Longs
 pub mod Openings
 pub mod Outcomes
