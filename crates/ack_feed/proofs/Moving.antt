@@ -1,6 +1,6 @@
 -- What a feed of acknowledgements makes of what its sink got.
-use Rattle.std.proofs.Common.{◌≡◌, ℕ, ◌+◌, ◌-◌, ◌≤◌, List, [], ◌∷◌, ◌++◌, length, map, take, reverse, Bool, true, false, refl, ap, sym, ◌∙◌, subst, arith}
-use Rattle.std.specs.Prelude.{IsTrue, Some, None, if◌then◌else◌}
+use Rattle.std.proofs.Common.{◌≡◌, ℕ, ◌+◌, ◌-◌, List, [], ◌∷◌, ◌++◌, length, map, take, drop, reverse, Bool, true, false, refl, ap, sym, ◌∙◌, subst, arith}
+use Rattle.std.specs.Prelude.{IsTrue, Option, Some, None, is_some, unwrap_or, if◌then◌else◌}
 use Rattle.std.specs.List.{flat_map}
 use Rattle.std.proofs.lemmas.List.{append_assoc, append-nil, length-append, nil_from_length, reverse-append, take_at}
 use Rattle.std.proofs.lemmas.List.Concat.{flat_map-append}
@@ -10,7 +10,11 @@ use Rattle.pipe_model.specs.History.{History}
 use Rattle.pipe_model.specs.Acknowledgements.{Acknowledgement, acknowledgements, acknowledged_by}
 use Rattle.journal_texts.specs.Acks.{ack_text}
 use Rattle.ack_feed.specs.Fed.{IsFed, text_of}
-use Rattle.ack_feed.specs.Feeds.{line_of, ack_lines}
+use Rattle.ack_feed.specs.Feeds.{line_of, ack_lines, to_come, begun_in, begun_by, Stands}
+use Rattle.ack_feed.specs.Lines.{sink_of, has_failed}
+use Rattle.ack_feed.specs.Moves.{Flows}
+use Rattle.ack_feed.specs.declared.feed.AckFeed.{AckFeed}
+use Rattle.ack_feed.proofs.Feeding.{all_pending}
 
 abbrev Text : Type 0
 Text = List ℕ
@@ -151,3 +155,41 @@ as_text topology before steps begun begun' held rest same is fed =
 pub as_lines : (topology : Topology) (before steps : History) (begun held rest : Text) → before ≡ steps → (got : Text) × (held ≡ begun ++ got) × (got ++ rest ≡ ack_text topology steps)
     → IsFed begun (ack_lines topology before) held rest
 as_lines topology before steps begun held rest same fed = (fed.0, fed.1, fed.2 ∙ (ap (ack_text topology) (sym same) ∙ sym (lines_text topology before)))
+
+-- what the sink began with, of a feed
+pub begun_so : {K : Type 0} (told : K → Bool) (held : K → Text) (begun : Text) (feed : AckFeed K) → IsTrue (told (sink_of feed.feed)) → Flows told held begun feed → begun_in held feed ≡ begun
+begun_so told held begun feed tells flows =
+    begun_is begun (ack_lines feed.cursor.topology feed.cursor.steps) (ack_text feed.cursor.topology feed.cursor.steps) (held (sink_of feed.feed)) (to_come feed)
+    (lines_text feed.cursor.topology feed.cursor.steps) (flows tells)
+
+pub flows_from : {K : Type 0} (told : K → Bool) (held : K → Text) (feed : AckFeed K) (steps : History) → Stands told held feed steps → Flows told held (begun_in held feed) feed
+flows_from told held feed steps s = λ tells.
+    as_lines feed.cursor.topology feed.cursor.steps steps (begun_in held feed) (held (sink_of feed.feed)) (to_come feed) s.seen (s.fed tells)
+
+pub stands_so : {K : Type 0} (told : K → Bool) (held : K → Text) (begun : Text) (feed : AckFeed K) (steps : History) → Flows told held begun feed → feed.cursor.steps ≡ steps
+    → (has_failed feed.feed ≡ false → to_come feed ≡ []) → Stands told held feed steps
+stands_so told held begun feed steps flows seen whole = record {
+  seen = seen;
+  fed = λ tells. as_text feed.cursor.topology feed.cursor.steps steps begun (begun_in held feed) (held (sink_of feed.feed)) (to_come feed) seen (begun_so told held begun feed tells flows) (flows tells);
+  whole = whole;
+}
+
+-- what it stands for when it moved on is what it was begun by
+pub begun_by_same : {K : Type 0} (told : K → Bool) (held : K → Text) (old new : AckFeed K) → told (sink_of new.feed) ≡ told (sink_of old.feed) → Flows told held (begun_in held old) new
+    → begun_by told held new ≡ begun_by told held old
+begun_by_same told held old new same flows =
+    begun_kept (told (sink_of old.feed)) (told (sink_of new.feed)) (begun_in held old) (begun_in held new) same (λ tells. begun_so told held (begun_in held old) new (same ∙ tells) flows)
+
+-- A feed that has seen no step
+
+-- nothing is to be written where no line is held and none was not sent
+pub none_to_come : (fault : Option ℕ) (lines unsent : List Text) → is_some fault ≡ false → lines ≡ [] → unsent ≡ [] → drop (unwrap_or fault 0) (text_of lines) ++ text_of (reverse unsent) ≡ []
+none_to_come fault lines unsent whole none also =
+    ap (λ (t : Text). t ++ text_of (reverse unsent)) (all_pending fault (text_of lines) whole ∙ ap text_of none) ∙ ap (λ (ls : List Text). text_of (reverse ls)) also
+
+pub flows_first : {K : Type 0} (told : K → Bool) (held : K → Text) (feed : AckFeed K) → feed.cursor.steps ≡ [] → to_come feed ≡ [] → Flows told held (held (sink_of feed.feed)) feed
+flows_first told held feed none empty = λ tells. (
+  [],
+  sym (append-nil (held (sink_of feed.feed))),
+  empty ∙ ap (λ (h : History). text_of (ack_lines feed.cursor.topology h)) (sym none),
+)
