@@ -3,6 +3,8 @@ pub mod Clauses
 pub mod Completes
 pub mod Drains
 pub mod Ends
+pub mod Feeding
+pub mod Judging
 pub mod Longs
 pub mod Openings
 pub mod Outcomes

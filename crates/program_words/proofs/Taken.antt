@@ -1,5 +1,5 @@
 -- From the clauses of clap's calls to what clap takes.
-use Rattle.std.proofs.Common.{◌≡◌, ◌⊎◌, ◌∙◌, ℕ, Bool, true, false, List, [], ◌∷◌, Option, Some, None, codes, inl, inr, refl, sym, subst, ap, arith, ne_eqb, not, is_some, option_and_then, true≢false, length, ◌==◌}
+use Rattle.std.proofs.Common.{◌≡◌, ◌⊎◌, ◌∙◌, ℕ, suc, Bool, true, false, List, [], ◌∷◌, Option, Some, None, codes, inl, inr, refl, sym, subst, ap, arith, ne_eqb, not, is_some, option_and_then, true≢false, length, ◌==◌}
 use Rattle.std.specs.Option.{option_eq, option_map_or}
 use Rattle.clap.specs.Words.{App, IsAmong, Kinds, Row, Text, app_of, fault_of, first_of, new_app, subcommand_of}
 use Rattle.clap.specs.Walk.{is_empty}
@@ -67,11 +67,13 @@ no_live (Some t) (Some n) (Some l) acks steps none = cc
 -- the name of a sink
 pub named_sink : (text : Text) → false ≡ (length text == 0) → Some (Some text) ≡ sink_of text
 named_sink [] some = cc
-named_sink (code ∷ codes) some = refl
+named_sink (code ∷ rest) some = refl
 
 pub empty_sink : (text : Text) → true ≡ (length text == 0) → None ≡ sink_of text
 empty_sink [] none = refl
-empty_sink (code ∷ codes) none = cc
+empty_sink (code ∷ rest) none =
+    let no : true ≡ false = none ∙ ne_eqb (suc (length rest)) 0 (omega arith) in
+    absurd (true≢false no)
 
 -- generated records, by their parts
 pub gen_read : (seed count : Option ℕ) (topology : Option Text) (s n : ℕ) (t : Text) → Some s ≡ seed → Some n ≡ count → Some t ≡ topology → Some (Gen s n t) ≡ gen_of seed count topology

@@ -16,8 +16,9 @@ use Rattle.program_words.specs.declared.words.Command as code
 use Rattle.program_words.specs.declared.words.Command.TheVariants as coded
 
 -- `flow` with the name of a source and a prefix, `check` and `upgrade` with a topology file, `run` with one, the number of
--- workers, whether the acknowledgements and the steps are asked for, and the name of a sink for live acknowledgements, `gen` with a seed, how many records are to be
--- generated, and a topology file, and `audit` with the name of a source and a topology file
+-- workers, whether the acknowledgements and the steps are asked for, and the name of a sink for live acknowledgements, if there
+-- is one, `gen` with a seed, how many records are to be generated, and a topology file, and `audit` with the name of a source
+-- and a topology file
 pub data Command : Type 0 where
   Flow : (source prefix : List ℕ) → Command
   Check : (topology : List ℕ) → Command
@@ -116,12 +117,12 @@ check_in rows = option_map Check (first_of (codes "topology") rows)
 abbrev pub upgrade_in : List Row → Option Command
 upgrade_in rows = option_map Upgrade (first_of (codes "topology") rows)
 
--- a sink is named by a text that is not empty
+-- the sink that the text after `--live` names: no empty text names one
 abbrev pub sink_of : Text → Option (Option Text)
 sink_of [] = None
-sink_of (code ∷ codes) = Some (Some (code ∷ codes))
+sink_of (code ∷ rest) = Some (Some (code ∷ rest))
 
--- the SINK of `--live`, if the option is given, and none of both where its name is empty
+-- the sink of `--live`, if the option is given; an empty name is no sink, and then there is no command
 abbrev pub live_in : List Row → Option (Option Text)
 live_in rows = option_map_or sink_of (first_of (codes "live") rows) (Some None)
 

@@ -220,7 +220,7 @@ fn begins_with_plus_or_zero(text: &str) -> bool
     }
 }
 
-/// The sink that the words name for live acknowledgements, if they name one, and none of both where its name is empty.
+/// The sink that the words name for live acknowledgements, if they name one. Where its name is empty, the words are no command.
 fn live<'a>(matches: &ArgMatches<'a>) -> Option<Option<&'a str>>
     ensures { option_map (option_map (λ sink. sink.now)) result ≡ live_in (rows_of (found_of matches.now)) }
 {
@@ -230,7 +230,7 @@ fn live<'a>(matches: &ArgMatches<'a>) -> Option<Option<&'a str>>
     }
 }
 
-/// The text as the name of a sink, if it is not empty.
+/// The sink of this name; an empty text is no name.
 fn sink_name<'a>(text: &'a str) -> Option<Option<&'a str>>
     ensures { option_map (option_map (λ sink. sink.now)) result ≡ sink_of text.entry.now }
 {

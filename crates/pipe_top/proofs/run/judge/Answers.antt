@@ -1,12 +1,22 @@
+use Rattle.pipe_top.proofs.Judging.{none_failed, one_failed, unfed_judged, unfed_shows}
 use Rattle.pipe_top.proofs.run.judge.Goals as goal
 
-pub returns-in-Ok : goal.returns-in-Ok
-returns-in-Ok c =
+pub returns-in-Ok-None : goal.returns-in-Ok-None
+returns-in-Ok-None c =
     let s = c.status-status.ensures in
     record {
-      ended = record {
+      verdict = record {
         ended = c.requires.come;
-        by_journal = rw (c.topology.ensures, c.journal.ensures) at s;
+        status_is = rw (c.topology.ensures, c.journal.ensures) at s;
+        by_journal = c.in-Ok.ensures;
       };
-      by_journal = c.in-Ok.ensures;
+      unfed = none_failed c.args.unfed c.args.live.now c.requires.fed (rw c.in-Ok-None.is at c.failed_sink.ensures);
+    }
+
+pub returns-in-Ok-Some : goal.returns-in-Ok-Some
+returns-in-Ok-Some c =
+    let one = one_failed c.args.unfed c.args.live.now c.in-Ok-Some.name.now (rw c.in-Ok-Some.is at c.failed_sink.ensures) in
+    record {
+      verdict = unfed_judged c.unfed_verdict.result c.in-Ok.texts c.in-Ok-Some.name.now c.args.live.now c.args.shows _ _ one.1 c.unfed_verdict.ensures c.requires.come c.in-Ok.ensures;
+      unfed = unfed_shows c.unfed_verdict.result c.in-Ok.texts c.in-Ok-Some.name.now c.args.unfed one.0 c.unfed_verdict.ensures;
     }
