@@ -166,16 +166,17 @@ live_cut name feeds topology control bodies made rest back begun old mid new par
 -- its call failed, and all else was given back
 pub undone_failed : (name failed : List ℕ) (feeds : Feeds) (topology : Topology) (control : Option LineSeen) (bodies : ℕ → Option BodySeen) (begun old new : EdgesSeen) → failed ≡ name → Asks ((Sink, name) ∷ []) begun old → Rose begun.faults old.faults
     → GivesOff (named_control topology.control control ++ sources_of feeds topology.stages bodies) (sinks_of feeds topology.stages bodies) old new → IsUndoneBy name feeds topology control bodies (Unopened failed) begun new
-undone_failed name failed feeds topology control bodies begun old new same asks rose back =
-    (same,
-      record {
-        asks = asked_all ((Sink, name) ∷ []) (named_control topology.control control ++ sources_of feeds topology.stages bodies) (sinks_of feeds topology.stages bodies) begun old new asks back;
-        fault = subst (λ n. Rose begun.faults n) (sym back.back.no_fault) rose;
-        inner = back.inner;
-        ungated = back.ungated;
-        sources = back.back.back_sources ∙ ap (λ z. z ++ back.inner) asks.sources;
-        sinks = back.back.back_sinks ∙ ap (λ z. z ++ sinks_of feeds topology.stages bodies) asks.sinks;
-      })
+undone_failed name failed feeds topology control bodies begun old new same asks rose back = (
+  same,
+  record {
+    asks = asked_all ((Sink, name) ∷ []) (named_control topology.control control ++ sources_of feeds topology.stages bodies) (sinks_of feeds topology.stages bodies) begun old new asks back;
+    fault = subst (λ n. Rose begun.faults n) (sym back.back.no_fault) rose;
+    inner = back.inner;
+    ungated = back.ungated;
+    sources = back.back.back_sources ∙ ap (λ z. z ++ back.inner) asks.sources;
+    sinks = back.back.back_sinks ∙ ap (λ z. z ++ sinks_of feeds topology.stages bodies) asks.sinks;
+  },
+)
 
 -- and memory was wanting for that
 pub undone_in_part : (name : List ℕ) (feeds : Feeds) (topology : Topology) (control : Option LineSeen) (bodies : ℕ → Option BodySeen) (begun old new : EdgesSeen) → Asks ((Sink, name) ∷ []) begun old → IsGivenInPart feeds topology control bodies old new

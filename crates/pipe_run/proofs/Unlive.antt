@@ -39,18 +39,22 @@ failed_last name feeds topology table opened fresh old mid new o f = record {
   calls = refl;
   asks = asked_more (run_calls feeds topology) ((Sink, name) ∷ []) old mid new o.asks f.asks;
   fault = rose_after old.faults mid.faults new.faults o.asks.faults_stay f.fault;
-  back = inr (refl, refl, record {
-    control = fresh;
-    unread = o.lines;
-    start = table;
-    handed = o.handed;
-    bodies = opened;
-    opened = o.opens;
-    inner = f.inner;
-    ungated = f.ungated;
-    sources = f.sources ∙ ap (λ z. z ++ f.inner) o.asks.sources;
-    sinks = f.sinks ∙ ap (λ z. z ++ sinks_of feeds topology.stages opened) o.asks.sinks;
-  });
+  back = inr (
+    refl,
+    refl,
+    record {
+      control = fresh;
+      unread = o.lines;
+      start = table;
+      handed = o.handed;
+      bodies = opened;
+      opened = o.opens;
+      inner = f.inner;
+      ungated = f.ungated;
+      sources = f.sources ∙ ap (λ z. z ++ f.inner) o.asks.sources;
+      sinks = f.sinks ∙ ap (λ z. z ++ sinks_of feeds topology.stages opened) o.asks.sinks;
+    },
+  );
 }
 
 back_from : (calls rest : List (EdgeKind × List ℕ)) (a b : EdgesSeen) (name : List ℕ) (back : List (List ℕ × SinkSeen)) → Asks calls a b → IsLiveBack b name rest back → IsLiveBack a name rest back
