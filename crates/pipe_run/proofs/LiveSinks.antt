@@ -1,6 +1,6 @@
 -- The live sink of a run: how it is opened, fed and given back, and what that makes of a run.
 use Rattle.std.proofs.Common.{◌≡◌, ℕ, suc, List, [], ◌∷◌, ◌++◌, length, Bool, true, false, not, refl, sym, ◌∙◌, ap, subst, inl, inr, Option, Some, None, Result, Ok, Err, arith}
-use Rattle.std.specs.Prelude.{◌⊎◌, ◌&&◌, if◌then◌else◌, IsTrue, OnErr, OnOk}
+use Rattle.std.specs.Prelude.{◌⊎◌, ◌&&◌, if◌then◌else◌, IsTrue, OnErr, OnOk, is_ok}
 use Rattle.std.proofs.lemmas.List.{append-nil, append_assoc}
 use Rattle.pipe_types.specs.Counts.{Rose}
 use Rattle.pipe_types.specs.declared.topology.Topology.{Topology}
@@ -16,7 +16,6 @@ use Rattle.edge_names.specs.Named.{BacksSink, GivesSink, back_after}
 use Rattle.edge_names.specs.Opened.{Asks}
 use Rattle.edge_names.specs.Controls.{IsGivenInPart, first_sources, first_sinks, named_control}
 use Rattle.edge_names.specs.Returned.{GivesOff, sources_of, sinks_of}
-use Rattle.edge_names.proofs.Cuts.{rose_after}
 use Rattle.pipe_run.specs.Live.{IsFed, IsFedSince, IsLiveBack, IsLiveOpened, IsLiveSink, IsLiveUnopened, held_in}
 use Rattle.pipe_run.specs.Outside.{AreAsked}
 use Rattle.pipe_run.specs.Steps.{IsLiveCut, IsLiveFailed, IsUndoneBy, WentLive, WentOn}
@@ -68,6 +67,10 @@ both_of false b h = cc
 narrower : {T E : Type 0} (end : Result T E) (whole now : Bool) → OnOk end (now ≡ whole) → OnErr end (now ≡ false) → (now ≡ whole) ⊎ (now ≡ false)
 narrower (Ok t) whole now same wanting = inl same
 narrower (Err e) whole now same wanting = inr wanting
+
+pub same_end : {T E X F : Type 0} (end : Result T E) (now before : Result X F) → OnOk end (now ≡ before) → OnOk end (is_ok now ≡ is_ok before)
+same_end (Ok t) now before same = ap is_ok same
+same_end (Err e) now before same = tt
 
 whole_before : (whole now : Bool) → (now ≡ whole) ⊎ (now ≡ false) → now ≡ true → whole ≡ true
 whole_before whole now (inl same) t = sym same ∙ t
