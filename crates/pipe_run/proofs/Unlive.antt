@@ -1,6 +1,6 @@
 -- A run that did not begin, since there was no watch over its live sink.
-use Rattle.std.proofs.Common.{◌≡◌, ℕ, List, [], ◌∷◌, ◌++◌, refl, sym, ◌∙◌, ap, inl, inr, Option, Some, None, Result, Ok, Err, arith}
-use Rattle.std.specs.Prelude.{◌⊎◌, IsTrue, IfErr}
+use Rattle.std.proofs.Common.{ℕ, List, [], ◌∷◌, ◌++◌, refl, sym, ◌∙◌, ap, inl, inr, Option, Some, None, Result, Ok, Err, arith}
+use Rattle.std.specs.Prelude.{IfErr}
 use Rattle.std.proofs.lemmas.List.{append_assoc}
 use Rattle.pipe_types.specs.declared.topology.Topology.{Topology}
 use Rattle.pipe_edges.specs.declared.edges.EdgeKind.{EdgeKind}
@@ -8,7 +8,6 @@ use Rattle.pipe_edges.specs.declared.edges.EdgeKind.TheVariants.{Sink}
 use Rattle.stage_bodies.specs.Seen.{SinkSeen, LineSeen, BodySeen}
 use Rattle.edge_names.specs.Supplies.{Feeds}
 use Rattle.edge_names.specs.Seen.{EdgesSeen}
-use Rattle.edge_names.specs.Named.{GivesSink}
 use Rattle.edge_names.specs.Opened.{Asks}
 use Rattle.edge_names.specs.Controls.{first_sinks, run_calls}
 use Rattle.edge_names.specs.Returned.{sinks_of}
@@ -39,18 +38,22 @@ failed_last name feeds topology table opened fresh old mid new o f = record {
   calls = refl;
   asks = asked_more (run_calls feeds topology) ((Sink, name) ∷ []) old mid new o.asks f.asks;
   fault = rose_after old.faults mid.faults new.faults o.asks.faults_stay f.fault;
-  back = inr (refl, refl, record {
-    control = fresh;
-    unread = o.lines;
-    start = table;
-    handed = o.handed;
-    bodies = opened;
-    opened = o.opens;
-    inner = f.inner;
-    ungated = f.ungated;
-    sources = f.sources ∙ ap (λ z. z ++ f.inner) o.asks.sources;
-    sinks = f.sinks ∙ ap (λ z. z ++ sinks_of feeds topology.stages opened) o.asks.sinks;
-  });
+  back = inr (
+    refl,
+    refl,
+    record {
+      control = fresh;
+      unread = o.lines;
+      start = table;
+      handed = o.handed;
+      bodies = opened;
+      opened = o.opens;
+      inner = f.inner;
+      ungated = f.ungated;
+      sources = f.sources ∙ ap (λ z. z ++ f.inner) o.asks.sources;
+      sinks = f.sinks ∙ ap (λ z. z ++ sinks_of feeds topology.stages opened) o.asks.sinks;
+    },
+  );
 }
 
 back_from : (calls rest : List (EdgeKind × List ℕ)) (a b : EdgesSeen) (name : List ℕ) (back : List (List ℕ × SinkSeen)) → Asks calls a b → IsLiveBack b name rest back → IsLiveBack a name rest back

@@ -23,5 +23,5 @@ returns-in-Ok-clause-went g c =
     let steps = went.run.core.journal.steps in
     let h = c.run_opened-run.ensures.seen in
     rw (c.closed.ensures.core, c.closed.ensures.unfed) (went_live c.args.name.now (g.L.Live.text topology steps) (at_paces topology origin) (is_ok went.run.end) (is_ok c.closed.result.end) topology steps (body_at g.B.Works.look c.args.bodies.items) (body_at g.B.Works.look went.bodies.items) (option_map (line_seen s) c.args.control)
-      (seen c.args.edges.now) (seen c.open_live.new.edges) (seen c.run_opened-run.new.edges) (seen c.back_sink-back.new.edges) (time c.args.clock) (time went.clock) (watching c.in-Ok.watch) (watching went.watch) went.run.unfed (see c.into_sink.result) c.back_sink-back.result c.in-Ok.ensures.opened c.run_opened-run.ensures.went c.run_opened-run.ensures.kept
-      c.run_opened-run.ensures.known c.into_sink.ensures.faults (λ all w. c.into_sink.ensures.fed topology steps all h.fit h.part (λ t. let p = w t in (p.0, h.all p.0 p.1))) c.back_sink-back.ensures (same_end c.back_sink-back.result c.closed.result.end went.run.end c.closed.ensures.end) c.closed.ensures.wanting)
+    (seen c.args.edges.now) (seen c.open_live.new.edges) (seen c.run_opened-run.new.edges) (seen c.back_sink-back.new.edges) (time c.args.clock) (time went.clock) (watching c.in-Ok.watch) (watching went.watch) went.run.unfed (see c.into_sink.result) c.back_sink-back.result c.in-Ok.ensures.opened c.run_opened-run.ensures.went c.run_opened-run.ensures.kept
+    c.run_opened-run.ensures.known c.into_sink.ensures.faults (λ all w. c.into_sink.ensures.fed topology steps all h.fit h.part (λ t. let p = w t in (p.0, h.all p.0 p.1))) c.back_sink-back.ensures (same_end c.back_sink-back.result c.closed.result.end went.run.end c.closed.ensures.end) c.closed.ensures.wanting)
