@@ -7,7 +7,7 @@ use Rattle.pipe_types.specs.declared.topology.Topology.{Topology}
 use Rattle.pipe_model.specs.History.{History}
 use Rattle.pipe_edges.specs.declared.edges.EdgeKind.{EdgeKind}
 use Rattle.pipe_edges.specs.declared.edges.EdgeKind.TheVariants.{Sink}
-use Rattle.stage_bodies.specs.Seen.{SourceSeen, SinkSeen, LineSeen, BodySeen}
+use Rattle.stage_bodies.specs.Seen.{SinkSeen, LineSeen, BodySeen}
 use Rattle.run_pipe.specs.Clocks.{ClockSeen}
 use Rattle.run_pipe.specs.Watches.{KeepsWatch, WatchSeen}
 use Rattle.edge_names.specs.Supplies.{Feeds}
@@ -16,12 +16,8 @@ use Rattle.edge_names.specs.Named.{BacksSink, GivesSink, back_after}
 use Rattle.edge_names.specs.Opened.{Asks}
 use Rattle.edge_names.specs.Controls.{IsGivenInPart, first_sources, first_sinks, named_control}
 use Rattle.edge_names.specs.Returned.{GivesOff, sources_of, sinks_of}
-use Rattle.pipe_run.specs.Live.{IsFed, IsFedSince, IsLiveBack, IsLiveOpened, IsLiveSink, IsLiveUnopened, held_in}
-use Rattle.pipe_run.specs.Outside.{AreAsked}
-use Rattle.pipe_run.specs.Steps.{IsLiveCut, IsLiveFailed, IsUndoneBy, WentLive, WentOn}
-use Rattle.pipe_run.specs.declared.live.NotLive.{NotLive}
-use Rattle.pipe_run.specs.declared.live.NotLive.TheVariants as not_live
-use Rattle.pipe_run.specs.declared.run.NoRun.{NoRun}
+use Rattle.pipe_run.specs.Live.{IsFed, IsFedSince, IsLiveBack, IsLiveOpened, IsLiveSink, held_in}
+use Rattle.pipe_run.specs.Steps.{IsLiveCut, IsUndoneBy, WentLive, WentOn}
 use Rattle.pipe_run.specs.declared.run.NoRun.TheVariants.{Unopened, OutOfMemory}
 use Rattle.pipe_run.proofs.Calls.{asked_all}
 use Rattle.pipe_run.proofs.Runs.{all_back, went_to}

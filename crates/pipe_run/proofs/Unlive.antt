@@ -1,6 +1,6 @@
 -- A run that did not begin, since there was no watch over its live sink.
-use Rattle.std.proofs.Common.{◌≡◌, ℕ, List, [], ◌∷◌, ◌++◌, refl, sym, ◌∙◌, ap, inl, inr, Option, Some, None, Result, Ok, Err, arith}
-use Rattle.std.specs.Prelude.{◌⊎◌, IsTrue, IfErr}
+use Rattle.std.proofs.Common.{ℕ, List, [], ◌∷◌, ◌++◌, refl, sym, ◌∙◌, ap, inl, inr, Option, Some, None, Result, Ok, Err, arith}
+use Rattle.std.specs.Prelude.{IfErr}
 use Rattle.std.proofs.lemmas.List.{append_assoc}
 use Rattle.pipe_types.specs.declared.topology.Topology.{Topology}
 use Rattle.pipe_edges.specs.declared.edges.EdgeKind.{EdgeKind}
@@ -8,7 +8,6 @@ use Rattle.pipe_edges.specs.declared.edges.EdgeKind.TheVariants.{Sink}
 use Rattle.stage_bodies.specs.Seen.{SinkSeen, LineSeen, BodySeen}
 use Rattle.edge_names.specs.Supplies.{Feeds}
 use Rattle.edge_names.specs.Seen.{EdgesSeen}
-use Rattle.edge_names.specs.Named.{GivesSink}
 use Rattle.edge_names.specs.Opened.{Asks}
 use Rattle.edge_names.specs.Controls.{first_sinks, run_calls}
 use Rattle.edge_names.specs.Returned.{sinks_of}

@@ -1,6 +1,6 @@
 -- What a whole run comes to, from its parts.
 use Rattle.std.proofs.Common.{◌≡◌, ◌∙◌, subst, ℕ, List, [], ◌∷◌, ◌++◌, Bool, true, false, length, map, Option, Some, None, Result, Ok, Err, arith}
-use Rattle.std.specs.Prelude.{is_ok, IfOk, IfSome, OnErr, IsTrue}
+use Rattle.std.specs.Prelude.{is_ok, IfOk, IfSome, OnErr}
 use Rattle.pipe_types.specs.Sound.{IsSound}
 use Rattle.pipe_types.specs.declared.topology.StageSpec.{StageSpec}
 use Rattle.pipe_types.specs.declared.topology.Topology.{Topology}

@@ -1,17 +1,16 @@
 use Rattle.std.proofs.Common.{◌≡◌, ◌∙◌, length, is_ok, subst, sym}
-use Rattle.std.specs.Prelude.{ℕ, Option, None, Result, IfOk, IfErr, option_map}
+use Rattle.std.specs.Prelude.{None, IfOk, IfErr, option_map}
 use Rattle.pipe_types.specs.declared.topology.Topology.{Topology}
-use Rattle.stage_bodies.specs.Seen.{LineSeen, BodySeen, body_at, line_seen, source_seen, sink_seen}
-use Rattle.run_pipe.specs.Clocks.{ClockSeen, clock_seen}
+use Rattle.stage_bodies.specs.Seen.{body_at, line_seen, source_seen, sink_seen}
+use Rattle.run_pipe.specs.Clocks.{clock_seen}
 use Rattle.run_pipe.specs.Ends.{HasEnded}
-use Rattle.edge_names.specs.Seen.{EdgesSeen, edges_seen}
+use Rattle.edge_names.specs.Seen.{edges_seen}
 use Rattle.edge_names.specs.Supplies.{at_paces}
 use Rattle.edge_names.specs.Controls.{IsCutShort, IsUndone, control_call, run_calls}
 use Rattle.edge_names.specs.Opened.{AreHome, AreOpened, Asks, HasSource}
 use Rattle.edge_names.proofs.Gating.{sound_paces}
 use Rattle.box_stock.proofs.Filled.{filled, homes}
 use Rattle.pipe_run.specs.Steps.{NotBegun, WentWith}
-use Rattle.pipe_run.specs.Whole.{IsRunOf}
 use Rattle.pipe_run.proofs.Calls.{failed_by, unasked, wanted}
 use Rattle.pipe_run.proofs.Controls.{unread}
 use Rattle.pipe_run.proofs.Ungated.{ungated}
