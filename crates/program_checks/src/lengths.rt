@@ -21,7 +21,7 @@ use rate_gate::GatedSource;
 use run_pipe::{Pipe, PipeParts, run_here};
 use stage_bodies::Houses;
 use stage_callback::StepsBox;
-use std::alloc::{AllocError, Global};
+use std::alloc::Global;
 use std::io;
 use std::sync::Wait;
 use topology_needs::shortage;
@@ -68,7 +68,10 @@ pub fn run_lengths<R: Wait>(rt: &HostRuntime, waits: &R, case: &Case) -> io::Res
         return println!(rt; "no topology");
     };
     let mut world = world_of(rt.alloc(), case)?;
-    let stock = stock_of(rt.alloc())?;
+    let mut stock: Vec<Handler> = Vec::new(rt.alloc());
+    for _ in 0..STOCK {
+        stock.push(Box::new(rt.alloc(), StepsBox::new(rt.alloc()))?)?;
+    }
     let shown = run_shown::<R, MemEdges, Handler, Body<GatedSource<MemSource>, MemSink>, MemClock>(
         waits,
         rt.alloc(),
@@ -81,14 +84,6 @@ pub fn run_lengths<R: Wait>(rt: &HostRuntime, waits: &R, case: &Case) -> io::Res
         Some(shown) => tell_lengths(rt, &shown),
         None => println!(rt; "no run"),
     }
-}
-
-fn stock_of(alloc: Global) -> Result<Vec<Handler>, AllocError> {
-    let mut stock: Vec<Handler> = Vec::new(alloc);
-    for _ in 0..STOCK {
-        stock.push(Box::new(alloc, StepsBox::new(alloc))?)?;
-    }
-    Ok(stock)
 }
 
 fn tell_lengths(rt: &HostRuntime, shown: &Shown) -> io::Result<()> {
