@@ -9,7 +9,7 @@ mod Stocks
 mod Calls
 mod Runs
 mod LiveSinks
-mod Unlive
-mod Wholes
 mod Rates
+mod Wholes
+mod Unlive
 mod Ungated

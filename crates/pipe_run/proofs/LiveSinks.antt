@@ -1,13 +1,13 @@
 -- The live sink of a run: how it is opened, fed and given back, and what that makes of a run.
 use Rattle.std.proofs.Common.{◌≡◌, ℕ, suc, List, [], ◌∷◌, ◌++◌, length, Bool, true, false, not, refl, sym, ◌∙◌, ap, subst, inl, inr, Option, Some, None, Result, Ok, Err, arith}
-use Rattle.std.specs.Prelude.{◌⊎◌, ◌&&◌, if◌then◌else◌, IsTrue, OnErr, OnOk}
+use Rattle.std.specs.Prelude.{◌⊎◌, ◌&&◌, if◌then◌else◌, IsTrue, OnErr, OnOk, is_ok}
 use Rattle.std.proofs.lemmas.List.{append-nil, append_assoc}
 use Rattle.pipe_types.specs.Counts.{Rose}
 use Rattle.pipe_types.specs.declared.topology.Topology.{Topology}
 use Rattle.pipe_model.specs.History.{History}
 use Rattle.pipe_edges.specs.declared.edges.EdgeKind.{EdgeKind}
 use Rattle.pipe_edges.specs.declared.edges.EdgeKind.TheVariants.{Sink}
-use Rattle.stage_bodies.specs.Seen.{SourceSeen, SinkSeen, LineSeen, BodySeen}
+use Rattle.stage_bodies.specs.Seen.{SinkSeen, LineSeen, BodySeen}
 use Rattle.run_pipe.specs.Clocks.{ClockSeen}
 use Rattle.run_pipe.specs.Watches.{KeepsWatch, WatchSeen}
 use Rattle.edge_names.specs.Supplies.{Feeds}
@@ -16,13 +16,8 @@ use Rattle.edge_names.specs.Named.{BacksSink, GivesSink, back_after}
 use Rattle.edge_names.specs.Opened.{Asks}
 use Rattle.edge_names.specs.Controls.{IsGivenInPart, first_sources, first_sinks, named_control}
 use Rattle.edge_names.specs.Returned.{GivesOff, sources_of, sinks_of}
-use Rattle.edge_names.proofs.Cuts.{rose_after}
-use Rattle.pipe_run.specs.Live.{IsFed, IsFedSince, IsLiveBack, IsLiveOpened, IsLiveSink, IsLiveUnopened, held_in}
-use Rattle.pipe_run.specs.Outside.{AreAsked}
-use Rattle.pipe_run.specs.Steps.{IsLiveCut, IsLiveFailed, IsUndoneBy, WentLive, WentOn}
-use Rattle.pipe_run.specs.declared.live.NotLive.{NotLive}
-use Rattle.pipe_run.specs.declared.live.NotLive.TheVariants as not_live
-use Rattle.pipe_run.specs.declared.run.NoRun.{NoRun}
+use Rattle.pipe_run.specs.Live.{IsFed, IsFedSince, IsLiveBack, IsLiveOpened, IsLiveSink, held_in}
+use Rattle.pipe_run.specs.Steps.{IsLiveCut, IsUndoneBy, WentLive, WentOn}
 use Rattle.pipe_run.specs.declared.run.NoRun.TheVariants.{Unopened, OutOfMemory}
 use Rattle.pipe_run.proofs.Calls.{asked_all}
 use Rattle.pipe_run.proofs.Runs.{all_back, went_to}
@@ -68,6 +63,10 @@ both_of false b h = cc
 narrower : {T E : Type 0} (end : Result T E) (whole now : Bool) → OnOk end (now ≡ whole) → OnErr end (now ≡ false) → (now ≡ whole) ⊎ (now ≡ false)
 narrower (Ok t) whole now same wanting = inl same
 narrower (Err e) whole now same wanting = inr wanting
+
+pub same_end : {T E X F : Type 0} (end : Result T E) (now before : Result X F) → OnOk end (now ≡ before) → OnOk end (is_ok now ≡ is_ok before)
+same_end (Ok t) now before same = ap is_ok same
+same_end (Err e) now before same = tt
 
 whole_before : (whole now : Bool) → (now ≡ whole) ⊎ (now ≡ false) → now ≡ true → whole ≡ true
 whole_before whole now (inl same) t = sym same ∙ t
@@ -163,16 +162,17 @@ live_cut name feeds topology control bodies made rest back begun old mid new par
 -- its call failed, and all else was given back
 pub undone_failed : (name failed : List ℕ) (feeds : Feeds) (topology : Topology) (control : Option LineSeen) (bodies : ℕ → Option BodySeen) (begun old new : EdgesSeen) → failed ≡ name → Asks ((Sink, name) ∷ []) begun old → Rose begun.faults old.faults
     → GivesOff (named_control topology.control control ++ sources_of feeds topology.stages bodies) (sinks_of feeds topology.stages bodies) old new → IsUndoneBy name feeds topology control bodies (Unopened failed) begun new
-undone_failed name failed feeds topology control bodies begun old new same asks rose back =
-    (same,
-      record {
-        asks = asked_all ((Sink, name) ∷ []) (named_control topology.control control ++ sources_of feeds topology.stages bodies) (sinks_of feeds topology.stages bodies) begun old new asks back;
-        fault = subst (λ n. Rose begun.faults n) (sym back.back.no_fault) rose;
-        inner = back.inner;
-        ungated = back.ungated;
-        sources = back.back.back_sources ∙ ap (λ z. z ++ back.inner) asks.sources;
-        sinks = back.back.back_sinks ∙ ap (λ z. z ++ sinks_of feeds topology.stages bodies) asks.sinks;
-      })
+undone_failed name failed feeds topology control bodies begun old new same asks rose back = (
+  same,
+  record {
+    asks = asked_all ((Sink, name) ∷ []) (named_control topology.control control ++ sources_of feeds topology.stages bodies) (sinks_of feeds topology.stages bodies) begun old new asks back;
+    fault = subst (λ n. Rose begun.faults n) (sym back.back.no_fault) rose;
+    inner = back.inner;
+    ungated = back.ungated;
+    sources = back.back.back_sources ∙ ap (λ z. z ++ back.inner) asks.sources;
+    sinks = back.back.back_sinks ∙ ap (λ z. z ++ sinks_of feeds topology.stages bodies) asks.sinks;
+  },
+)
 
 -- and memory was wanting for that
 pub undone_in_part : (name : List ℕ) (feeds : Feeds) (topology : Topology) (control : Option LineSeen) (bodies : ℕ → Option BodySeen) (begun old new : EdgesSeen) → Asks ((Sink, name) ∷ []) begun old → IsGivenInPart feeds topology control bodies old new

@@ -1,6 +1,6 @@
 -- What a whole run comes to, from its parts.
-use Rattle.std.proofs.Common.{◌≡◌, ◌∙◌, ℕ, List, [], ◌∷◌, ◌++◌, Bool, true, false, length, map, Option, Some, None, Result, Ok, Err, arith}
-use Rattle.std.specs.Prelude.{is_ok, IfOk, IfErr, OnErr, IsTrue}
+use Rattle.std.proofs.Common.{◌≡◌, ◌∙◌, subst, ℕ, List, [], ◌∷◌, ◌++◌, Bool, true, false, length, map, Option, Some, None, Result, Ok, Err, arith}
+use Rattle.std.specs.Prelude.{is_ok, IfOk, IfSome, OnErr}
 use Rattle.pipe_types.specs.Sound.{IsSound}
 use Rattle.pipe_types.specs.declared.topology.StageSpec.{StageSpec}
 use Rattle.pipe_types.specs.declared.topology.Topology.{Topology}
@@ -10,12 +10,15 @@ use Rattle.pipe_edges.specs.declared.edges.EdgeKind.{EdgeKind}
 use Rattle.pipe_edges.specs.declared.edges.EdgeKind.TheVariants.{Sink}
 use Rattle.stage_bodies.specs.Seen.{SinkSeen, LineSeen, BoxSeen, BodySeen}
 use Rattle.run_pipe.specs.Clocks.{ClockSeen}
-use Rattle.edge_names.specs.Supplies.{Feeds}
+use Rattle.core_state.specs.Stands.{Stands}
+use Rattle.rate_laws.specs.Rates.{KeepsRate}
+use Rattle.edge_names.specs.Supplies.{Feed, Feeds, FeedsProducers, at_paces}
 use Rattle.edge_names.specs.Seen.{EdgesSeen}
 use Rattle.edge_names.specs.Controls.{control_call, first_sources, first_sinks, run_calls}
 use Rattle.edge_names.specs.Named.{GivesSink}
 use Rattle.edge_names.specs.Opened.{AreOpened, Asks, HasSource}
 use Rattle.edge_names.proofs.Openings.{asks_more}
+use Rattle.edge_names.proofs.Returns.{callbacks_more}
 use Rattle.edge_names.specs.Returned.{KeepsCallbacks}
 use Rattle.box_stock.specs.Lends.{AreHandedOut, CallbacksRemain}
 use Rattle.box_stock.specs.declared.handing.Slip.{Slip}
@@ -31,6 +34,7 @@ use Rattle.pipe_run.proofs.Bodies.{AreUngated, IsRunFrom, used}
 use Rattle.pipe_run.proofs.Callbacks.{leaves, left_remain, same_remain}
 use Rattle.pipe_run.proofs.Calls.{asked_all, outside}
 use Rattle.pipe_run.proofs.Controls.{has_control, no_control}
+use Rattle.pipe_run.proofs.Rates.{rate_kept}
 use Rattle.pipe_run.proofs.Stocks.{IsTakenBack, boxes_left, boxes_same}
 
 -- everything was opened, the rounds went on, and all was given back
@@ -114,7 +118,7 @@ run_with_live feeds whole topology before table opened final fresh name text fai
       };
     }
 
-pub run_of : (live : Option (List ℕ)) (feeds : Feeds) (whole : Bool) (topology : Topology) (before : History) (table opened final : ℕ → Option BodySeen) (fresh : Option LineSeen) (text : List ℕ) (failed : Bool) (old mid new : EdgesSeen) (clock clock' : ClockSeen) → IsSound topology → AreUngated feeds → is_legal topology before ≡ true → AreHandedOut topology table
+run_of : (live : Option (List ℕ)) (feeds : Feeds) (whole : Bool) (topology : Topology) (before : History) (table opened final : ℕ → Option BodySeen) (fresh : Option LineSeen) (text : List ℕ) (failed : Bool) (old mid new : EdgesSeen) (clock clock' : ClockSeen) → IsSound topology → AreUngated feeds → is_legal topology before ≡ true → AreHandedOut topology table
     → AreOpened feeds topology (length topology.stages) old table opened → HasSource old (control_call topology.control) None fresh → Asks (run_calls feeds topology) old mid
     → WentWith live feeds whole topology before text failed opened final fresh mid new clock clock' → IsRunOf feeds whole topology before live text failed old new clock clock'
 run_of (Some name) feeds whole topology before table opened final fresh text failed old mid new clock clock' sound ungated legal handed opens lines asks went =
@@ -127,7 +131,7 @@ record IsUsedBy (feeds : Feeds) (whole : Bool) (topology : Topology) (before : H
   pub bodies : ℕ → Option BodySeen
   pub used : AreUsed feeds whole topology old before bodies
 
-pub used_in : (live : Option (List ℕ)) (feeds : Feeds) (whole : Bool) (topology : Topology) (before : History) (text : List ℕ) (failed : Bool) (old new : EdgesSeen) → IsOutsideWith feeds whole topology before live text failed old new → IsUsedBy feeds whole topology before old
+used_in : (live : Option (List ℕ)) (feeds : Feeds) (whole : Bool) (topology : Topology) (before : History) (text : List ℕ) (failed : Bool) (old new : EdgesSeen) → IsOutsideWith feeds whole topology before live text failed old new → IsUsedBy feeds whole topology before old
 used_in (Some name) feeds whole topology before text failed old new o = record { bodies = o.outside.bodies; used = o.outside.used }
 used_in None feeds whole topology before text failed old new o = record { bodies = o.bodies; used = o.used }
 
@@ -136,7 +140,7 @@ run_leaves : (feeds : Feeds) (whole : Bool) (topology : Topology) (before : Hist
 run_leaves feeds whole topology before table opened final fresh mid new clock clock' sound first went =
     leaves whole topology before table opened went.bodies final sound first went.keeps went.none_out went.stay went.kept
 
-pub leaves_with : (live : Option (List ℕ)) (feeds : Feeds) (whole : Bool) (topology : Topology) (before : History) (text : List ℕ) (failed : Bool) (table opened final : ℕ → Option BodySeen) (fresh : Option LineSeen) (mid new : EdgesSeen) (clock clock' : ClockSeen) → IsSound topology → KeepsCallbacks table opened
+leaves_with : (live : Option (List ℕ)) (feeds : Feeds) (whole : Bool) (topology : Topology) (before : History) (text : List ℕ) (failed : Bool) (table opened final : ℕ → Option BodySeen) (fresh : Option LineSeen) (mid new : EdgesSeen) (clock clock' : ClockSeen) → IsSound topology → KeepsCallbacks table opened
     → WentWith live feeds whole topology before text failed opened final fresh mid new clock clock' → LeavesCallbacks whole topology before table final
 leaves_with (Some name) feeds whole topology before text failed table opened final fresh mid new clock clock' sound first live = run_leaves feeds whole topology before table opened final fresh live.begun live.middle clock clock' sound first live.went
 leaves_with None feeds whole topology before text failed table opened final fresh mid new clock clock' sound first went = run_leaves feeds whole topology before table opened final fresh mid new clock clock' sound first went.0
@@ -156,3 +160,43 @@ pub same_by : {C : Type 0} (seen : C → BoxSeen) (r : Result Run NoRun) (topolo
     → OnErr r (KeepsCallbacks table final) → OnErr r (AreSameBoxes (map seen stock) (map seen back))
 same_by seen (Ok run) topology stock back slips table final taken same = tt
 same_by seen (Err e) topology stock back slips table final taken same = boxes_same seen topology stock back slips table final taken same
+
+-- ---- the run that there was, if there was one
+
+-- everything was opened for it
+pub record IsOpenedFor (feeds : Feeds) (topology : Topology) (table opened : ℕ → Option BodySeen) (fresh : Option LineSeen) (old mid : EdgesSeen) : Type 0 where
+  pub sound : IsSound topology
+  pub handed : AreHandedOut topology table
+  pub opens : AreOpened feeds topology (length topology.stages) old table opened
+  pub lines : HasSource old (control_call topology.control) None fresh
+  pub asks : Asks (run_calls feeds topology) old mid
+  pub callbacks : KeepsCallbacks table opened
+
+legal_of : (topology : Topology) (run : Run) → run.core.topology ≡ topology → Stands run.core → is_legal topology run.core.journal.steps ≡ true
+legal_of topology run same stands = subst (λ (t : Topology). is_legal t run.core.journal.steps ≡ true) same stands.holds.legal
+
+pub ran_in : (r : Result Run NoRun) (live : Option (List ℕ)) (text : History → List ℕ) (feeds : Feeds) (topology : Topology) (table opened final : ℕ → Option BodySeen) (fresh : Option LineSeen) (old mid new : EdgesSeen) (clock clock' : ClockSeen) → AreUngated feeds → IsOpenedFor feeds topology table opened fresh old mid
+    → IfOk r (λ run. run.core.topology ≡ topology) → IfOk r (λ run. Stands run.core) → IfOk r (λ run. WentWith live feeds (is_ok run.end) topology run.core.journal.steps (text run.core.journal.steps) run.unfed opened final fresh mid new clock clock')
+    → IfOk r (λ run. IsRunOf feeds (is_ok run.end) topology run.core.journal.steps live (text run.core.journal.steps) run.unfed old new clock clock')
+ran_in (Ok run) live text feeds topology table opened final fresh old mid new clock clock' ungated o same stands went =
+    run_of live feeds (is_ok run.end) topology run.core.journal.steps table opened final fresh (text run.core.journal.steps) run.unfed old mid new clock clock' o.sound ungated (legal_of topology run same stands) o.handed o.opens o.lines o.asks went
+ran_in (Err e) live text feeds topology table opened final fresh old mid new clock clock' ungated o same stands went = tt
+
+pub boxes_in : (r : Result Run NoRun) (live : Option (List ℕ)) (text : History → List ℕ) (feeds : Feeds) (topology : Topology) (table opened final : ℕ → Option BodySeen) (fresh : Option LineSeen) (old mid new : EdgesSeen) (clock clock' : ClockSeen) → IsOpenedFor feeds topology table opened fresh old mid
+    → IfOk r (λ run. WentWith live feeds (is_ok run.end) topology run.core.journal.steps (text run.core.journal.steps) run.unfed opened final fresh mid new clock clock')
+    → IfOk r (λ run. LeavesCallbacks (is_ok run.end) topology run.core.journal.steps table final)
+boxes_in (Ok run) live text feeds topology table opened final fresh old mid new clock clock' o went =
+    leaves_with live feeds (is_ok run.end) topology run.core.journal.steps (text run.core.journal.steps) run.unfed table opened final fresh mid new clock clock' o.sound o.callbacks went
+boxes_in (Err e) live text feeds topology table opened final fresh old mid new clock clock' o went = tt
+
+pub rate_in : (r : Result Run NoRun) (live : Option (List ℕ)) (text : History → List ℕ) (origin : StageSpec → Option Feed) (topology : Topology) (old new : EdgesSeen) (clock clock' : ClockSeen) → IsSound topology → FeedsProducers origin topology
+    → IfOk r (λ run. run.core.topology ≡ topology) → IfOk r (λ run. Stands run.core) → IfOk r (λ run. IsRunOf (at_paces topology origin) (is_ok run.end) topology run.core.journal.steps live (text run.core.journal.steps) run.unfed old new clock clock')
+    → IfOk r (λ run. IfSome topology.rate (λ rate. KeepsRate rate run.core.journal.steps))
+rate_in (Ok run) live text origin topology old new clock clock' sound feeds same stands ran =
+    let used = used_in live (at_paces topology origin) (is_ok run.end) topology run.core.journal.steps (text run.core.journal.steps) run.unfed old new ran.outside in
+    rate_kept origin (is_ok run.end) topology old run.core.journal.steps used.bodies sound (legal_of topology run same stands) feeds used.used
+rate_in (Err e) live text origin topology old new clock clock' sound feeds same stands ran = tt
+
+pub callbacks_in : (r : Result Run NoRun) (table opened final : ℕ → Option BodySeen) → KeepsCallbacks table opened → OnErr r (KeepsCallbacks opened final) → OnErr r (KeepsCallbacks table final)
+callbacks_in (Ok run) table opened final first then = tt
+callbacks_in (Err e) table opened final first then = callbacks_more table opened final first then

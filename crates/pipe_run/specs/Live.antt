@@ -1,5 +1,5 @@
 -- The live sink of a run: it is opened behind all else that the run opens, told of the journal while the run goes on, and given back last.
-use Rattle.std.specs.Prelude.{◌≡◌, ◌≤◌, ◌⊎◌, ◌++◌, ◌∷◌, ◌&&◌, [], not, false, if◌then◌else◌, Bool, ℕ, List, IsTrue, Option, Some, None}
+use Rattle.std.specs.Prelude.{◌≡◌, ◌⊎◌, ◌++◌, ◌∷◌, ◌&&◌, [], not, false, if◌then◌else◌, Bool, ℕ, List, IsTrue, Option, Some, None}
 use Rattle.pipe_types.specs.Counts.{Rose}
 use Rattle.pipe_edges.specs.declared.edges.EdgeKind.{EdgeKind}
 use Rattle.pipe_edges.specs.declared.edges.EdgeKind.TheVariants.{Sink}

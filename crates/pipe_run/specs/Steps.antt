@@ -1,7 +1,6 @@
 -- What the parts of a whole run come to.
 use Rattle.std.specs.Prelude.{◌≡◌, ◌++◌, ◌∷◌, [], ℕ, suc, Bool, false, List, length, IsTrue, IsSome, Option, Some, None}
 use Rattle.pipe_types.specs.Counts.{Rose}
-use Rattle.pipe_types.specs.declared.topology.StageSpec.{StageSpec}
 use Rattle.pipe_types.specs.declared.topology.Topology.{Topology}
 use Rattle.pipe_model.specs.History.{History}
 use Rattle.pipe_model.specs.Moves.{jobs_out}
