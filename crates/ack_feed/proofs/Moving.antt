@@ -6,17 +6,25 @@ use Rattle.std.proofs.lemmas.List.{append_assoc, append-nil, length-append, nil_
 use Rattle.std.proofs.lemmas.List.Concat.{flat_map-append}
 use Rattle.pipe_types.specs.declared.topology.Topology.{Topology}
 use Rattle.pipe_types.specs.declared.step.Step.{Step}
+use Rattle.pipe_model.specs.Begins.{BeginsWith}
 use Rattle.pipe_model.specs.History.{History}
 use Rattle.pipe_model.specs.Acknowledgements.{Acknowledgement, acknowledgements, acknowledged_by}
+use Rattle.pipe_laws.proofs.Journals.{begins_with_itself}
 use Rattle.journal_texts.specs.Acks.{ack_text}
+use Rattle.pipe_journal.specs.Watched.{StandsOn}
+use Rattle.pipe_journal.specs.declared.watch.WatchEnd.{WatchEnd}
+use Rattle.pipe_journal.specs.declared.watch.WatchEnd.TheVariants.{Done as WatchDone, OutOfMemory}
 use Rattle.ack_feed.specs.Fed.{IsFed, text_of}
-use Rattle.ack_feed.specs.Feeds.{line_of, ack_lines, to_come, begun_in, begun_by, Stands}
-use Rattle.ack_feed.specs.Lines.{sink_of, has_failed}
-use Rattle.ack_feed.specs.Moves.{Flows}
+use Rattle.ack_feed.specs.Feeds.{line_of, ack_lines, unsent_text, to_come, begun_in, begun_by, Stands}
+use Rattle.ack_feed.specs.Lines.{sink_of, pending, has_failed}
+use Rattle.ack_feed.specs.Moves.{Flows, watch_end}
 use Rattle.ack_feed.specs.declared.feed.AckFeed.{AckFeed}
+use Rattle.ack_feed.specs.declared.lines.FeedEnd.{FeedEnd}
+use Rattle.ack_feed.specs.declared.lines.FeedEnd.TheVariants.{Done, Failed}
+use Rattle.ack_feed.specs.declared.lines.LineFeed.{LineFeed}
 use Rattle.ack_feed.proofs.Feeding.{all_pending}
 
-abbrev Text : Type 0
+abbrev pub Text : Type 0
 Text = List ℕ
 
 -- the lines as one text
@@ -179,6 +187,34 @@ pub begun_by_same : {K : Type 0} (told : K → Bool) (held : K → Text) (old ne
     → begun_by told held new ≡ begun_by told held old
 begun_by_same told held old new same flows =
     begun_kept (told (sink_of old.feed)) (told (sink_of new.feed)) (begun_in held old) (begun_in held new) same (λ tells. begun_so told held (begun_in held old) new (same ∙ tells) flows)
+
+-- A flush behind the last step that it went on by
+
+-- what is held is written, or a part of it
+pub flushed : {K : Type 0} (told : K → Bool) (held : K → Text) (begun : Text) (feed : AckFeed K) (lines : LineFeed K) → told (sink_of lines) ≡ told (sink_of feed.feed)
+    → ((begun : Text) (sent : List Text) → IsTrue (told (sink_of feed.feed)) → IsFed begun sent (held (sink_of feed.feed)) (pending feed.feed) → IsFed begun sent (held (sink_of lines)) (pending lines))
+    → Flows told held begun feed → Flows told held begun (record feed { feed = lines })
+flushed told held begun feed lines same keeps flows = λ tells.
+    let before : IsTrue (told (sink_of feed.feed)) = sym same ∙ tells in
+    carry begun (ack_lines feed.cursor.topology feed.cursor.steps) (held (sink_of feed.feed)) (held (sink_of lines)) (pending feed.feed) (pending lines) (unsent_text feed) (λ b s f. keeps b s before f) (flows before)
+
+-- it has seen all
+pub all_seen : {K : Type 0} (told : K → Bool) (held : K → Text) (begun : Text) (feed : AckFeed K) (whole : History) (end : FeedEnd) (said : WatchEnd) → said ≡ watch_end end WatchDone
+    → Flows told held begun feed → feed.cursor.steps ≡ whole → (has_failed feed.feed ≡ false → to_come feed ≡ []) → StandsOn said (λ steps. Stands told held feed steps) whole
+all_seen told held begun feed whole end said is flows seen none = subst (λ (w : WatchEnd). StandsOn w (λ steps. Stands told held feed steps) whole) (sym is) (by end)
+  where
+    by : (e : FeedEnd) → StandsOn (watch_end e WatchDone) (λ steps. Stands told held feed steps) whole
+    by Done = stands_so told held begun feed whole flows seen none
+    by Failed = (whole, stands_so told held begun feed whole flows seen none, begins_with_itself whole)
+
+-- it has seen a part, since memory was wanting
+pub part_seen : {K : Type 0} (told : K → Bool) (held : K → Text) (begun : Text) (feed : AckFeed K) (whole : History) (end : FeedEnd) (said : WatchEnd) → said ≡ watch_end end OutOfMemory
+    → Flows told held begun feed → BeginsWith whole feed.cursor.steps → (has_failed feed.feed ≡ false → to_come feed ≡ []) → StandsOn said (λ steps. Stands told held feed steps) whole
+part_seen told held begun feed whole end said is flows begins none = subst (λ (w : WatchEnd). StandsOn w (λ steps. Stands told held feed steps) whole) (sym is) (by end)
+  where
+    by : (e : FeedEnd) → StandsOn (watch_end e OutOfMemory) (λ steps. Stands told held feed steps) whole
+    by Done = (feed.cursor.steps, stands_so told held begun feed feed.cursor.steps flows refl none, begins)
+    by Failed = (feed.cursor.steps, stands_so told held begun feed feed.cursor.steps flows refl none, begins)
 
 -- A feed that has seen no step
 

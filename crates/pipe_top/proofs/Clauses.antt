@@ -659,7 +659,7 @@ unfed_in (Runs shows live feeding wanted) fails calls topology before verdict ol
     used = rw r.own at out
 
     by_which : (v : Reported shows live wanted before verdict) → IsDone wanted before verdict v.texts ⊎ IsUnfedWith live verdict v.texts → IsUnfed live new.edges
-    by_which v (inl d) = absurd (omega (arith, done_few d, at))
+    by_which v (inl d) = absurd (omega (arith, done_few wanted before verdict v.texts d, at))
     by_which v (inr u) = unfed_run (feeds_of feeding wanted) live wanted before verdict v.texts old new used (is_reported v) u
 
     by_run : Reported shows live wanted before verdict ⊎ (verdict ≡ Refused Memory) → IsUnfed live new.edges

@@ -4,7 +4,6 @@ pub mod Completes
 pub mod Drains
 pub mod Ends
 pub mod Feeding
-pub mod Judging
 pub mod Longs
 pub mod Openings
 pub mod Outcomes

@@ -60,8 +60,8 @@ pub record Reported (shows : Shows) (live : Option (List ℕ)) (topology : Topol
   pub come : HasCome topology before
   pub by_journal : whole_text texts ≡ run_text shows topology before
 
-done_few : {topology : Topology} {before : History} {verdict : Verdict} {texts : Texts} → IsDone topology before verdict texts → status_in verdict ≤ 4
-done_few {topology} {before} {verdict} {texts} d =
+pub done_few : (topology : Topology) (before : History) (verdict : Verdict) (texts : Texts) → IsDone topology before verdict texts → status_in verdict ≤ 4
+done_few topology before verdict texts d =
     let is : status_in verdict ≡ d.0 = ap status_in d.1 in
     omega (arith, is, d.2, status_few topology before)
 
@@ -70,7 +70,7 @@ pub few_of : {shows : Shows} {live : Option (List ℕ)} {topology : Topology} {b
 few_of {shows} {live} {topology} {before} {verdict} v = by_which v.which
   where
     by_which : IsDone topology before verdict v.texts ⊎ IsUnfedWith live verdict v.texts → IsEndStatus (status_in verdict)
-    by_which (inl d) = inl (done_few d)
+    by_which (inl d) = inl (done_few topology before verdict v.texts d)
     by_which (inr u) = inr (ap status_in u.1)
 
 -- 12 only where there is a live sink
@@ -82,7 +82,7 @@ run_status {shows} {live} {topology} {before} {verdict} v = by_which v.which
     few_in (Some name) s few = inl few
 
     by_which : IsDone topology before verdict v.texts ⊎ IsUnfedWith live verdict v.texts → IsRunStatus live (status_in verdict)
-    by_which (inl d) = few_in live (status_in verdict) (done_few d)
+    by_which (inl d) = few_in live (status_in verdict) (done_few topology before verdict v.texts d)
     by_which (inr u) = subst (λ (o : Option (List ℕ)). IsRunStatus o (status_in verdict)) (sym u.2) (inr (ap status_in u.1))
 
 -- the run is drained or halted, and but for 12 the status is the journal's
@@ -114,7 +114,7 @@ err_of {shows} {live} {topology} {before} {verdict} v = by_which v.which
     small s few = rw (le-leb s 4 few) refl
 
     by_which : IsDone topology before verdict v.texts ⊎ IsUnfedWith live verdict v.texts → err_text_of verdict ≡ (if nat_le (status_in verdict) 4 then [] else live_line live)
-    by_which (inl d) = ap err_text_of d.1 ∙ small (status_in verdict) (done_few d)
+    by_which (inl d) = ap err_text_of d.1 ∙ small (status_in verdict) (done_few topology before verdict v.texts d)
     by_which (inr u) = unfed_line verdict v.texts u.0 live u.1 u.2
 
 -- it is no refusal

@@ -1,5 +1,5 @@
 -- What a call came to, as the clauses of the top call say it.
-use Rattle.std.proofs.Common.{◌≡◌, ◌≢◌, ℕ, ◌≤◌, List, [], Option, None, ◌∙◌, arith}
+use Rattle.std.proofs.Common.{◌≡◌, ◌≢◌, ℕ, List, [], Option, None, ◌∙◌, arith}
 use Rattle.std.specs.Prelude.{◌⊎◌, IsTrue}
 use Rattle.pipe_types.specs.Counts.{Rose}
 use Rattle.pipe_types.specs.declared.topology.Topology.{Topology}

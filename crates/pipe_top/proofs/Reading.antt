@@ -17,9 +17,9 @@ use Rattle.run_verdicts.specs.declared.audits.AuditFault.{AuditFault}
 use Rattle.program_words.specs.Words.{Command, Flow, Check, Run, Gen, Upgrade, Audit as AuditOf}
 use Rattle.edge_names.specs.Seen.{EdgesSeen}
 use Rattle.topology_needs.specs.declared.stock.Boxes.{Boxes}
-use Rattle.pipe_top.specs.Cases.{Feeding, Named, Filed, MadeFrom, Case, Checks, Upgrades, audit_case, case_of, run_case, for_topology, report_alone, opening_calls, calls_of, file_name, IsNamedFile}
+use Rattle.pipe_top.specs.Cases.{Named, Filed, MadeFrom, Case, Checks, Upgrades, audit_case, case_of, run_case, for_topology, report_alone, opening_calls, calls_of, file_name, IsNamedFile}
 use Rattle.pipe_top.specs.Runs.{OutsideSeen, IsUntouched, Asks, FailsAt}
-use Rattle.pipe_top.specs.Flows.{ShowsUnfed, IsCheckedOrNot, IsUpgraded, ComesBy, Came, ComesAudited, ReadsFile, ReadsTopology, ReadsUpgrade, UpgradesTo, IsTextOf, topology_beside, AskedFile}
+use Rattle.pipe_top.specs.Flows.{ShowsUnfed, IsCheckedOrNot, IsUpgraded, ComesBy, Came, ComesAudited, ReadsFile, ReadsTopology, ReadsUpgrade, UpgradesTo, topology_beside, AskedFile}
 use Rattle.pipe_top.specs.declared.file.Upgraded.{Upgraded}
 use Rattle.pipe_config.specs.Upgrade.{IsUpgrade}
 use Rattle.run_verdicts.specs.declared.verdict.Refusal.{Refusal}

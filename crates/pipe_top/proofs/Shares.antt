@@ -1,9 +1,8 @@
 -- What a run over generated records read of them.
 use Rattle.std.proofs.Common.{◌≡◌, ◌-◌, ◌<◌, ◌≤◌, ◌^◌, ℕ, List, [], ◌∷◌, ◌++◌, length, Bool, true, Option, Some, None, refl, sym, ◌∙◌, ap, subst, inl, inr, arith}
-use Rattle.std.specs.Prelude.{◌⊎◌, All, ◌==◌, ◌&&◌, option_map}
+use Rattle.std.specs.Prelude.{All, ◌==◌, ◌&&◌, option_map}
 use Rattle.pipe_types.specs.Numbers.{post}
 use Rattle.pipe_types.specs.Sound.{IsSound, is_ordered, is_producer, may_begin, may_go_on, batchers, producers}
-use Rattle.pipe_types.specs.Stages.{spec_of}
 use Rattle.pipe_types.specs.declared.numbers.StageNo.{StageNo}
 use Rattle.pipe_types.specs.declared.topology.Role.{Role}
 use Rattle.pipe_types.specs.declared.topology.Role.TheVariants.{Producer, Processor, Supervisor, Batcher, BatchProcessor}
@@ -11,7 +10,7 @@ use Rattle.pipe_types.specs.declared.topology.StageSpec.{StageSpec}
 use Rattle.pipe_types.specs.declared.topology.Topology.{Topology}
 use Rattle.pipe_model.specs.History.{History}
 use Rattle.pipe_model.specs.Legal.{has_role, is_producer_role}
-use Rattle.pipe_edges.specs.Paces.{Pace, unpaced}
+use Rattle.pipe_edges.specs.Paces.{unpaced}
 use Rattle.pipe_edges.specs.Texts.{IsLine, ended}
 use Rattle.pipe_edges.specs.declared.edges.EdgeKind.{EdgeKind}
 use Rattle.source_lines.specs.Cut.{HasShortLines}
@@ -24,10 +23,9 @@ use Rattle.body_laws.proofs.Posts.{some_role}
 use Rattle.edge_names.specs.Seen.{EdgesSeen}
 use Rattle.edge_names.specs.Opened.{supplied_in}
 use Rattle.edge_names.specs.Gates.{pace_by, pace_of_stage}
-use Rattle.edge_names.specs.Supplies.{Feeds, Fed, Made, Supplied, supplied, supplied_by}
+use Rattle.edge_names.specs.Supplies.{Feeds, Fed, Made, supplied, supplied_by}
 use Rattle.edge_names.specs.Returned.{feed_in}
 use Rattle.made_sources.specs.Records.{records_made}
-use Rattle.made_sources.specs.Feeds.{made_feeds}
 use Rattle.made_sources.proofs.Lines.{made_lines}
 use Rattle.journal_texts.specs.Acks.{ack_text}
 use Rattle.pipe_run.specs.Outside.{IsFedRead, IsMadeRead, IsOutside, IsOutsideWith, KeepsItsPace}

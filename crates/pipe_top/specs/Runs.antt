@@ -16,8 +16,7 @@ use Rattle.body_laws.specs.Passes.{all_pass}
 use Rattle.pipe_edges.specs.declared.edges.EdgeKind.{EdgeKind}
 use Rattle.pipe_edges.specs.declared.edges.EdgeKind.TheVariants.{File}
 use Rattle.config_table.specs.Fault.{number_of}
-use Rattle.journal_texts.specs.Steps.{journal_text}
-use Rattle.journal_texts.specs.Report.{report_text, status_of}
+use Rattle.journal_texts.specs.Report.{status_of}
 use Rattle.journal_texts.specs.Acks.{ack_text}
 use Rattle.program_words.specs.Refusals.{usage_line, topology_line, stock_line, edge_line, feed_line, memory_line, counts_line}
 use Rattle.program_words.specs.Words.{Command}
@@ -42,7 +41,6 @@ use Rattle.pipe_top.specs.Cases.{Feeding, MadeFrom, calls_of, feeds_of, Case, No
 use Rattle.run_verdicts.specs.Audits.{legal_text, fault_line, fault_status}
 use Rattle.run_verdicts.specs.Texts.{run_text}
 use Rattle.run_verdicts.specs.Verdicts.{Adds, AddsPrefix, path_of}
-use Rattle.run_verdicts.specs.declared.verdict.Shows.{Shows}
 
 -- what a call may use, as contracts see it: what is opened by name, the clock, and the boxes of the stock
 pub record OutsideSeen : Type 0 where

@@ -16,8 +16,11 @@ go_on-requires c =
     let there : step_at run.steps c.loop-at.at ≡ Some step =
     ap (λ (h : History). step_at h c.loop-at.at) (sym c.journal-journal.ensures.steps) ∙ (c.view.ensures ∙ ap (λ (st : Step). Some st) (sym c.in_ok-step.ensures)) in
     let long : length c.journal-journal.result.now.steps ≡ length run.steps = ap length c.journal-journal.ensures.steps in
-    (λ i. allows (c.loop-at.invariant.topology i) (c.loop-at.invariant.steps i) step)
-    ∙ allowed_there run.topology run.steps c.loop-at.at step c.journal-journal.ensures.legal (omega (arith, long)) there
+    record {
+      legal =
+          (λ i. allows (c.loop-at.invariant.topology i) (c.loop-at.invariant.steps i) step)
+          ∙ allowed_there run.topology run.steps c.loop-at.at step c.journal-journal.ensures.legal (omega (arith, long)) there;
+    }
 
 pub loop-at-preserved : goal.loop-at-preserved
 loop-at-preserved c =

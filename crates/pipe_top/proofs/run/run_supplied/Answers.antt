@@ -23,8 +23,8 @@ returns-in-Err-Unopened g c =
           fed (rw (is, why) at r.failed) (rw q.ensures.same_clock (rw (rw is at r.same_clock) refl)) (rw q.ensures.same_boxes (rw is at r.same_boxes)) (rw why at q.ensures.verdict) q.ensures.no_run;
     }
 
-pub returns-in-Err-OutOfMemory : goal.returns-in-Err-OutOfMemory
-returns-in-Err-OutOfMemory g c =
+pub returns : goal.returns
+returns g c =
     let r = c.run_topology-run.ensures in
     let q = c.refused-in-Err-OutOfMemory in
     let is = c.in-Err-OutOfMemory.is in
