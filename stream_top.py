@@ -11,8 +11,8 @@ def re_sub(p,*pairs):
     p=os.path.join(top,p); s=open(p).read()
     for a,b in pairs: s=re.sub(a,b,s)
     open(p,'w').write(s)
-re_sub('specs/Flows.antt',(r'whole_text texts\b','whole_text before texts'))
-for p in ['proofs/Clauses.antt','proofs/Promises.antt']:
+for p in ['specs/Flows.antt','proofs/Outcomes.antt']: re_sub(p,(r'whole_text texts\b','whole_text before texts'))
+for p in ['proofs/Clauses.antt','proofs/Promises.antt','proofs/Outcomes.antt']:
     re_sub(p,(r'\bout_text_of verdict\b','out_text_of before verdict'),(r'\bout_text_of \((Done|Unfed)',r'out_text_of before (\1'),(r'\bap out_text_of ','ap (out_text_of before) '),(r'\bWrites verdict status','Writes before verdict status'))
 sub('proofs/Promises.antt',('pub record Writes (verdict : Verdict)','pub record Writes (before : History) (verdict : Verdict)'))
 re_sub('proofs/Clauses.antt',(r'\bbegun_refusal held','begun_refusal before held'),(r'\bbegun_early fails held','begun_early fails before held'),

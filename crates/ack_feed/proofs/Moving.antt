@@ -1,18 +1,30 @@
 -- What a feed of acknowledgements makes of what its sink got.
-use Rattle.std.proofs.Common.{◌≡◌, ℕ, ◌+◌, ◌-◌, ◌≤◌, List, [], ◌∷◌, ◌++◌, length, map, take, reverse, Bool, true, false, refl, ap, sym, ◌∙◌, subst, arith}
-use Rattle.std.specs.Prelude.{IsTrue, Some, None, if◌then◌else◌}
+use Rattle.std.proofs.Common.{◌≡◌, ℕ, ◌+◌, ◌-◌, List, [], ◌∷◌, ◌++◌, length, map, take, drop, reverse, Bool, true, false, refl, ap, sym, ◌∙◌, subst, arith}
+use Rattle.std.specs.Prelude.{IsTrue, Option, Some, None, is_some, unwrap_or, if◌then◌else◌}
 use Rattle.std.specs.List.{flat_map}
 use Rattle.std.proofs.lemmas.List.{append_assoc, append-nil, length-append, nil_from_length, reverse-append, take_at}
 use Rattle.std.proofs.lemmas.List.Concat.{flat_map-append}
 use Rattle.pipe_types.specs.declared.topology.Topology.{Topology}
 use Rattle.pipe_types.specs.declared.step.Step.{Step}
+use Rattle.pipe_model.specs.Begins.{BeginsWith}
 use Rattle.pipe_model.specs.History.{History}
 use Rattle.pipe_model.specs.Acknowledgements.{Acknowledgement, acknowledgements, acknowledged_by}
+use Rattle.pipe_laws.proofs.Journals.{begins_with_itself}
 use Rattle.journal_texts.specs.Acks.{ack_text}
+use Rattle.pipe_journal.specs.Watched.{StandsOn}
+use Rattle.pipe_journal.specs.declared.watch.WatchEnd.{WatchEnd}
+use Rattle.pipe_journal.specs.declared.watch.WatchEnd.TheVariants.{Done as WatchDone, OutOfMemory}
 use Rattle.ack_feed.specs.Fed.{IsFed, text_of}
-use Rattle.ack_feed.specs.Feeds.{line_of, ack_lines}
+use Rattle.ack_feed.specs.Feeds.{line_of, ack_lines, unsent_text, to_come, begun_in, begun_by, Stands}
+use Rattle.ack_feed.specs.Lines.{sink_of, pending, has_failed}
+use Rattle.ack_feed.specs.Moves.{Flows, watch_end}
+use Rattle.ack_feed.specs.declared.feed.AckFeed.{AckFeed}
+use Rattle.ack_feed.specs.declared.lines.FeedEnd.{FeedEnd}
+use Rattle.ack_feed.specs.declared.lines.FeedEnd.TheVariants.{Done, Failed}
+use Rattle.ack_feed.specs.declared.lines.LineFeed.{LineFeed}
+use Rattle.ack_feed.proofs.Feeding.{all_pending}
 
-abbrev Text : Type 0
+abbrev pub Text : Type 0
 Text = List ℕ
 
 -- the lines as one text
@@ -151,3 +163,69 @@ as_text topology before steps begun begun' held rest same is fed =
 pub as_lines : (topology : Topology) (before steps : History) (begun held rest : Text) → before ≡ steps → (got : Text) × (held ≡ begun ++ got) × (got ++ rest ≡ ack_text topology steps)
     → IsFed begun (ack_lines topology before) held rest
 as_lines topology before steps begun held rest same fed = (fed.0, fed.1, fed.2 ∙ (ap (ack_text topology) (sym same) ∙ sym (lines_text topology before)))
+
+-- what the sink began with, of a feed
+pub begun_so : {K : Type 0} (told : K → Bool) (held : K → Text) (begun : Text) (feed : AckFeed K) → IsTrue (told (sink_of feed.feed)) → Flows told held begun feed → begun_in held feed ≡ begun
+begun_so told held begun feed tells flows =
+    begun_is begun (ack_lines feed.cursor.topology feed.cursor.steps) (ack_text feed.cursor.topology feed.cursor.steps) (held (sink_of feed.feed)) (to_come feed)
+    (lines_text feed.cursor.topology feed.cursor.steps) (flows tells)
+
+pub flows_from : {K : Type 0} (told : K → Bool) (held : K → Text) (feed : AckFeed K) (steps : History) → Stands told held feed steps → Flows told held (begun_in held feed) feed
+flows_from told held feed steps s = λ tells.
+    as_lines feed.cursor.topology feed.cursor.steps steps (begun_in held feed) (held (sink_of feed.feed)) (to_come feed) s.seen (s.fed tells)
+
+pub stands_so : {K : Type 0} (told : K → Bool) (held : K → Text) (begun : Text) (feed : AckFeed K) (steps : History) → Flows told held begun feed → feed.cursor.steps ≡ steps
+    → (has_failed feed.feed ≡ false → to_come feed ≡ []) → Stands told held feed steps
+stands_so told held begun feed steps flows seen whole = record {
+  seen = seen;
+  fed = λ tells. as_text feed.cursor.topology feed.cursor.steps steps begun (begun_in held feed) (held (sink_of feed.feed)) (to_come feed) seen (begun_so told held begun feed tells flows) (flows tells);
+  whole = whole;
+}
+
+-- what it stands for when it moved on is what it was begun by
+pub begun_by_same : {K : Type 0} (told : K → Bool) (held : K → Text) (old new : AckFeed K) → told (sink_of new.feed) ≡ told (sink_of old.feed) → Flows told held (begun_in held old) new
+    → begun_by told held new ≡ begun_by told held old
+begun_by_same told held old new same flows =
+    begun_kept (told (sink_of old.feed)) (told (sink_of new.feed)) (begun_in held old) (begun_in held new) same (λ tells. begun_so told held (begun_in held old) new (same ∙ tells) flows)
+
+-- A flush behind the last step that it went on by
+
+-- what is held is written, or a part of it
+pub flushed : {K : Type 0} (told : K → Bool) (held : K → Text) (begun : Text) (feed : AckFeed K) (lines : LineFeed K) → told (sink_of lines) ≡ told (sink_of feed.feed)
+    → ((begun : Text) (sent : List Text) → IsTrue (told (sink_of feed.feed)) → IsFed begun sent (held (sink_of feed.feed)) (pending feed.feed) → IsFed begun sent (held (sink_of lines)) (pending lines))
+    → Flows told held begun feed → Flows told held begun (record feed { feed = lines })
+flushed told held begun feed lines same keeps flows = λ tells.
+    let before : IsTrue (told (sink_of feed.feed)) = sym same ∙ tells in
+    carry begun (ack_lines feed.cursor.topology feed.cursor.steps) (held (sink_of feed.feed)) (held (sink_of lines)) (pending feed.feed) (pending lines) (unsent_text feed) (λ b s f. keeps b s before f) (flows before)
+
+-- it has seen all
+pub all_seen : {K : Type 0} (told : K → Bool) (held : K → Text) (begun : Text) (feed : AckFeed K) (whole : History) (end : FeedEnd) (said : WatchEnd) → said ≡ watch_end end WatchDone
+    → Flows told held begun feed → feed.cursor.steps ≡ whole → (has_failed feed.feed ≡ false → to_come feed ≡ []) → StandsOn said (λ steps. Stands told held feed steps) whole
+all_seen told held begun feed whole end said is flows seen none = subst (λ (w : WatchEnd). StandsOn w (λ steps. Stands told held feed steps) whole) (sym is) (by end)
+  where
+    by : (e : FeedEnd) → StandsOn (watch_end e WatchDone) (λ steps. Stands told held feed steps) whole
+    by Done = stands_so told held begun feed whole flows seen none
+    by Failed = (whole, stands_so told held begun feed whole flows seen none, begins_with_itself whole)
+
+-- it has seen a part, since memory was wanting
+pub part_seen : {K : Type 0} (told : K → Bool) (held : K → Text) (begun : Text) (feed : AckFeed K) (whole : History) (end : FeedEnd) (said : WatchEnd) → said ≡ watch_end end OutOfMemory
+    → Flows told held begun feed → BeginsWith whole feed.cursor.steps → (has_failed feed.feed ≡ false → to_come feed ≡ []) → StandsOn said (λ steps. Stands told held feed steps) whole
+part_seen told held begun feed whole end said is flows begins none = subst (λ (w : WatchEnd). StandsOn w (λ steps. Stands told held feed steps) whole) (sym is) (by end)
+  where
+    by : (e : FeedEnd) → StandsOn (watch_end e OutOfMemory) (λ steps. Stands told held feed steps) whole
+    by Done = (feed.cursor.steps, stands_so told held begun feed feed.cursor.steps flows refl none, begins)
+    by Failed = (feed.cursor.steps, stands_so told held begun feed feed.cursor.steps flows refl none, begins)
+
+-- A feed that has seen no step
+
+-- nothing is to be written where no line is held and none was not sent
+pub none_to_come : (fault : Option ℕ) (lines unsent : List Text) → is_some fault ≡ false → lines ≡ [] → unsent ≡ [] → drop (unwrap_or fault 0) (text_of lines) ++ text_of (reverse unsent) ≡ []
+none_to_come fault lines unsent whole none also =
+    ap (λ (t : Text). t ++ text_of (reverse unsent)) (all_pending fault (text_of lines) whole ∙ ap text_of none) ∙ ap (λ (ls : List Text). text_of (reverse ls)) also
+
+pub flows_first : {K : Type 0} (told : K → Bool) (held : K → Text) (feed : AckFeed K) → feed.cursor.steps ≡ [] → to_come feed ≡ [] → Flows told held (held (sink_of feed.feed)) feed
+flows_first told held feed none empty = λ tells. (
+  [],
+  sym (append-nil (held (sink_of feed.feed))),
+  empty ∙ ap (λ (h : History). text_of (ack_lines feed.cursor.topology h)) (sym none),
+)

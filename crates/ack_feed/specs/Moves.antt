@@ -21,5 +21,5 @@ ended_failed (Err error) = false
 
 -- after a flush that was to end so
 abbrev pub watch_end : FeedEnd → WatchEnd → WatchEnd
-watch_end Done done = done
-watch_end Failed done = WatchFailed
+watch_end Done wanted = wanted
+watch_end Failed wanted = WatchFailed

@@ -82,6 +82,7 @@ impl<K: ByteSink> AckFeed<K> {
         ensures held { result ≡ FeedEnd.Done → held_lines (feed_of self.new) ≡ room_made (room_of (feed_of self.old)) (held_lines (feed_of self.old)) ++ line ∷ [] }
         ensures waits { length (held_lines (feed_of self.old)) < room_of (feed_of self.old) → sink_of (feed_of self.new) ≡ sink_of (feed_of self.old) }
         ensures same_telling { K.told (sink_of (feed_of self.new)) ≡ K.told (sink_of (feed_of self.old)) }
+        ensures room { room_of (feed_of self.new) ≡ room_of (feed_of self.old) }
         ensures failed { has_failed (feed_of self.new) ≡ is_failed result }
         ensures over { has_failed (feed_of self.old) ≡ true → self.new ≡ self.old }
         ensures faults_stay { K.faults (sink_of (feed_of self.old)) ≤ K.faults (sink_of (feed_of self.new)) }
@@ -99,6 +100,7 @@ impl<K: ByteSink> AckFeed<K> {
         ensures empty { has_failed (feed_of self.new) ≡ false → held_lines (feed_of self.new) ≡ [] }
         ensures all { has_failed (feed_of self.new) ≡ false → pending (feed_of self.new) ≡ [] }
         ensures same_telling { K.told (sink_of (feed_of self.new)) ≡ K.told (sink_of (feed_of self.old)) }
+        ensures room { room_of (feed_of self.new) ≡ room_of (feed_of self.old) }
         ensures failed { has_failed (feed_of self.new) ≡ is_failed result }
         ensures over { has_failed (feed_of self.old) ≡ true → self.new ≡ self.old }
         ensures faults_stay { K.faults (sink_of (feed_of self.old)) ≤ K.faults (sink_of (feed_of self.new)) }

@@ -1,8 +1,8 @@
+pub mod Live
 pub mod Outside
 pub mod Records
 pub mod Boxes
 pub mod Whole
-pub mod Live
 pub mod Steps
 pub use Rattle.run_pipe.specs.Clocks
 pub use Rattle.run_pipe.specs.Idle

@@ -14,7 +14,7 @@ ghost use Rattle.pipe_run.specs.{Outside.{IsMadeRead}, Records.{ReadsRecords}};
 mod live;
 mod run;
 
-pub use live::{Live, NotLive};
+pub use live::Live;
 pub use run::{Ended, NoRun, Run, run_topology};
 
 /// A run reads the records, in their order, of a source that was made of records.

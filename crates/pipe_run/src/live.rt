@@ -1,59 +1,107 @@
-//! What is shown the journal of a run, and the sink that it opens for that.
+//! The live sink of a run. It is opened by its name behind all else, a watch over it is shown the journal, and it is given back
+//! last.
 
-ghost use Rattle.std.specs.Prelude.{◌≡◌, false, Bool, ℕ, List, [], IsTrue, Option, None, IfOk, IfErr};
+ghost use Rattle.std.specs.Prelude.{◌≡◌, false, Bool, ℕ, List, [], IsTrue, IfOk, IfErr};
 ghost use Rattle.pipe_types.specs.{Sound.{IsSound}, declared.topology.Topology.{Topology as TopologySeen}};
 ghost use Rattle.pipe_model.specs.{Begins.{BeginsWith}, History.{History}};
+ghost use Rattle.pipe_edges.specs.declared.edges.EdgeKind.TheVariants.{Sink};
+ghost use Rattle.stage_bodies.specs.Seen.{sink_seen};
+ghost use Rattle.edge_names.specs.Named.{BacksSink, GivesSink, Opens};
 ghost use Rattle.run_pipe.specs.Watches.{watch_seen};
-ghost use Rattle.pipe_run.specs.Live.{BacksLive, IsLiveUnopened, OpensLive};
+ghost use Rattle.pipe_run.specs.Live.{IsFedSince, IsLiveOpened, IsLiveUnopened, held_in};
 
-use edge_names::{SeenEdges, Unopened};
-use pipe_edges::Edges;
-use pipe_journal::{NoWatch, Watch};
+use edge_names::{SeenEdges, SeenSink};
+use pipe_edges::{ByteSink, EdgeEnd, Edges};
+use pipe_journal::Watch;
+use pipe_types::bytes::Text;
 use pipe_types::topology::Topology;
 use std::alloc::{AllocError, Global};
 
-/// What is shown the journal of a run. It may have a sink, which it opens behind all else that the run opens, and gives back last.
-pub trait Live<E: Edges> {
+/// What a live sink is for: how a watch is made over it, which writes to it what there is to tell of the journal.
+pub trait Live<K: ByteSink> {
     type Watch: Watch;
 
-    /// The name of its sink.
-    ghost name: { Self → Option (List ℕ) };
+    /// What the sink is to get of a journal.
+    ghost text: { TopologySeen → History → List ℕ };
 
-    /// What its sink is to get of a journal.
-    ghost text: { Self → TopologySeen → History → List ℕ };
-
-    /// A watch that fits the topology, over its sink, which it opens. For want of memory the sink goes back.
-    fn open(&self, alloc: Global, topology: &Topology, edges: &mut E) -> Result<Self::Watch, Unopened>
+    /// A watch that fits the topology, over this sink. Where memory is wanting the sink is given back.
+    fn watch(alloc: Global, topology: &Topology, sink: K) -> Result<Self::Watch, (K, AllocError)>
         requires sound { IsSound topology.now }
         ensures fits { IfOk result (λ w. Self.Watch.fits w topology.now) }
         ensures unseen { IfOk result (λ w. Self.Watch.stands w []) }
         ensures unfailed { IfOk result (λ w. Self.Watch.failed w ≡ false) }
-        ensures opened { IfOk result (λ w. OpensLive (name self.now) (watch_seen Self.Watch.begun Self.Watch.failed Self.Watch.faults w) (⟦<E as SeenEdges>⟧.seen edges.old) (⟦<E as SeenEdges>⟧.seen edges.new)) }
-        ensures unopened { IfErr result (λ e. IsLiveUnopened (name self.now) e (⟦<E as SeenEdges>⟧.seen edges.old) (⟦<E as SeenEdges>⟧.seen edges.new)) };
+        ensures begun { IfOk result (λ w. Self.Watch.begun w ≡ held_in (sink_seen K.told K.held K.faults sink)) }
+        ensures faults { IfOk result (λ w. Self.Watch.faults w ≡ K.faults sink) }
+        ensures returned { IfErr result (λ e. e.0 ≡ sink) };
 
-    /// Gives its sink back. The error is want of memory: the sink is let go.
-    fn give_back(&self, watch: Self::Watch, edges: &mut E) -> Result<(), AllocError>
-        ensures back { (topology : TopologySeen) (steps : History) (all : Bool) → Self.Watch.fits watch topology
-            → ((earlier : History) × Self.Watch.stands watch earlier × BeginsWith steps earlier) → (IsTrue all → Self.Watch.stands watch steps)
-            → BacksLive (name self.now) (text self.now topology steps) all (watch_seen Self.Watch.begun Self.Watch.failed Self.Watch.faults watch) (⟦<E as SeenEdges>⟧.seen edges.old) (⟦<E as SeenEdges>⟧.seen edges.new) result };
+    /// Its sink, which was fed a first part of the text of a journal of which the watch has seen a part, and all of it where it has seen all
+    /// and has not failed.
+    fn into_sink(watch: Self::Watch) -> K
+        ensures fed { (topology : TopologySeen) (steps : History) (all : Bool) → Self.Watch.fits watch topology
+            → ((earlier : History) × Self.Watch.stands watch earlier × BeginsWith steps earlier)
+            → (IsTrue all → (Self.Watch.failed watch ≡ false) × Self.Watch.stands watch steps)
+            → IsFedSince (text topology steps) all (Self.Watch.begun watch) (sink_seen K.told K.held K.faults result) }
+        ensures faults { K.faults result ≡ Self.Watch.faults watch };
 }
 
-/// Nothing is shown the journal.
-#[derive(Clone, Copy, Drop)]
-pub struct NotLive;
+/// Why there is no watch over the live sink.
+#[derive(Drop)]
+pub(crate) enum NotLive<K> {
+    /// The call by this name failed.
+    Failed(Text),
+    /// Memory was wanting before the sink was opened.
+    Unopened,
+    /// Memory was wanting for a watch over this sink.
+    Opened(K),
+}
 
-impl<E: Edges> Live<E> for NotLive {
-    type Watch = NoWatch;
+/// Opens the sink of this name.
+fn open_sink<E: Edges>(name: &Text, edges: &mut E) -> Result<E::Sink, EdgeEnd>
+    ensures opens { Opens Sink name.now (⟦<E as SeenEdges>⟧.seen edges.old) (⟦<E as SeenEdges>⟧.seen edges.new) result }
+    ensures given { IfOk result (λ k. GivesSink (⟦<E as SeenEdges>⟧.seen edges.old) name.now (⟦<E::Sink as SeenSink>⟧.seen k)) }
+{
+    edges.open_sink(name)
+}
 
-    ghost name = { λ live. None };
+/// Gives a sink back under its name.
+pub(crate) fn back_sink<E: Edges>(
+    name: &Text,
+    sink: E::Sink,
+    edges: &mut E,
+) -> Result<(), AllocError>
+    ensures { BacksSink name.now (⟦<E::Sink as SeenSink>⟧.seen sink) (⟦<E as SeenEdges>⟧.seen edges.old) (⟦<E as SeenEdges>⟧.seen edges.new) result }
+{
+    edges.back_sink(name, sink)
+}
 
-    ghost text = { λ live topology steps. [] };
+fn copy_text(alloc: Global, text: &str) -> Result<Text, AllocError>
+    ensures { IfOk result (λ copy. copy ≡ text.now) }
+{
+    Ok(Text::from_string(String::from_str(alloc, text)?))
+}
 
-    fn open(&self, alloc: Global, topology: &Topology, edges: &mut E) -> Result<NoWatch, Unopened> {
-        Ok(NoWatch)
-    }
-
-    fn give_back(&self, watch: NoWatch, edges: &mut E) -> Result<(), AllocError> {
-        Ok(())
+/// Opens the live sink of this name, and makes a watch over it that fits the topology.
+pub(crate) fn open_live<E: Edges, L: Live<E::Sink>>(
+    alloc: Global,
+    name: &Text,
+    topology: &Topology,
+    edges: &mut E,
+) -> Result<L::Watch, NotLive<E::Sink>>
+    requires sound { IsSound topology.now }
+    ensures fits { IfOk result (λ w. L.Watch.fits w topology.now) }
+    ensures unseen { IfOk result (λ w. L.Watch.stands w []) }
+    ensures opened { IfOk result (λ w. IsLiveOpened name.now (watch_seen L.Watch.begun L.Watch.failed L.Watch.faults w) (⟦<E as SeenEdges>⟧.seen edges.old) (⟦<E as SeenEdges>⟧.seen edges.new)) }
+    ensures unopened { IfErr result (λ e. IsLiveUnopened (sink_seen E.Sink.told E.Sink.held E.Sink.faults) name.now e (⟦<E as SeenEdges>⟧.seen edges.old) (⟦<E as SeenEdges>⟧.seen edges.new)) }
+{
+    let Ok(copy) = copy_text(alloc, name.as_str()) else {
+        return Err(NotLive::Unopened);
+    };
+    match open_sink(name, edges) {
+        Ok(sink) => match L::watch(alloc, topology, sink) {
+            Ok(watch) => Ok(watch),
+            Err((sink, _)) => Err(NotLive::Opened(sink)),
+        },
+        Err(EdgeEnd::Failed) => Err(NotLive::Failed(copy)),
+        Err(EdgeEnd::OutOfMemory) => Err(NotLive::Unopened),
     }
 }

@@ -3,20 +3,20 @@
 ghost use Rattle.std.specs.Prelude.{◌≡◌, ◌≤◌, ◌<◌, ◌*◌, ℕ, [], length, true, false, IsTrue, map, option_map, is_ok, IfOk, IfErr, IfSome, OnOk, OnErr};
 ghost use Rattle.pipe_types.specs.Sound.{IsSound};
 ghost use Rattle.core_state.specs.Stands.{Stands};
-ghost use Rattle.stage_bodies.specs.{Seen.{body_at, line_seen}, Jobs.{Both}};
+ghost use Rattle.stage_bodies.specs.{Seen.{body_at, line_seen, sink_seen}, Jobs.{Both}};
 ghost use Rattle.body_laws.specs.Ready.{IsFilled};
 ghost use Rattle.run_pipe.specs.{Keeping.{IsFresh}, Clocks.{clock_seen}, Ends.{HasEnded}, Watches.{HasSeen, KeepsWatch, watch_seen}};
-ghost use Rattle.edge_names.specs.{Supplies.{FeedsProducers, IsUnmerged, at_paces}, Returned.{KeepsCallbacks}};
+ghost use Rattle.edge_names.specs.{Seen.{EdgesSeen}, Supplies.{FeedsProducers, IsUnmerged, at_paces}, Returned.{KeepsCallbacks}};
 ghost use Rattle.rate_laws.specs.Rates.{KeepsRate};
 ghost use Rattle.box_stock.specs.{Homes.{Suffices}, Lends.{AreHandedOut, AreStillThere, IsSameBox, box_at, kinds_of}};
-ghost use Rattle.pipe_run.specs.{Boxes.{AreBoxesLeft, AreSameBoxes, LeavesCallbacks}, Steps.{WentOn}, Live.{live_calls, no_run_of}, Whole.{IsLiveRun, HasFailed, HasWanted, HasCome, IfUnopened, IfWanting}};
+ghost use Rattle.pipe_run.specs.{Boxes.{AreBoxesLeft, AreSameBoxes, LeavesCallbacks}, Live.{IsLiveUnopened}, Steps.{IsUndoneBy, NotBegun, WentLive, WentOn, WentWith}, Whole.{IsRunOf, HasFailed, HasWanted, HasCome, IfUnopened, IfWanting}};
 
-use crate::live::Live;
+use crate::live::{Live, NotLive, back_sink, open_live};
 use box_stock::{Boxed, Carries, Lent, hand_out, take_back};
 use core_state::Core;
 use edge_names::{SeenEdges, Supply, Unopened, give_back, open_or_give_back};
 use pipe_edges::{ByteSource, Clock, Edges, LineSource};
-use pipe_journal::Watch;
+use pipe_journal::{NoWatch, Watch};
 use pipe_types::bytes::Text;
 use pipe_types::topology::Topology;
 use rate_gate::GatedSource;
@@ -67,8 +67,9 @@ struct Went<B, K, W> {
 }
 
 /// Runs the topology on so many workers, on one at least, with sources by the supply, each in its gate where the topology has a
-/// rate, and boxes of the stock, which come back in their order; its journal is shown to what is live. Nothing is opened before the memory for the run was found. Where
-/// the topology has no idle limit, it may wait for its sources for ever.
+/// rate, and boxes of the stock, which come back in their order. Where a live sink is named, it is opened behind all else, is told of
+/// the journal while the run goes on, and is given back last. Nothing is opened before the memory for the run was found. Where the topology has
+/// no idle limit, it may wait for its sources for ever.
 pub fn run_topology<
     R: Threads + Wait + Sync,
     E: Edges,
@@ -76,14 +77,14 @@ pub fn run_topology<
     C: Boxed,
     B: Carries<C> + Houses<GatedSource<Q::Source>, E::Sink> + Send,
     K: Clock + Send,
-    L: Live<E>,
+    L: Live<E::Sink>,
 >(
     rt: &R,
     alloc: Global,
     supply: &Q,
-    live: &L,
     topology: Topology,
     workers: u16,
+    live: &Option<Text>,
     stock: Vec<C>,
     edges: &mut E,
     clock: K,
@@ -94,19 +95,21 @@ pub fn run_topology<
     requires suffices { Suffices topology (kinds_of C.seen stock.items) }
     ensures topology { IfOk result.run (λ run. run.core.topology ≡ topology) }
     ensures stands { IfOk result.run (λ run. Stands run.core) }
-    ensures ran { IfOk result.run (λ run. IsLiveRun (at_paces topology (Q.feeds supply.now)) (is_ok run.end) topology run.core.journal.steps (L.name live.now) (L.text live.now topology run.core.journal.steps) run.unfed (⟦<E as SeenEdges>⟧.seen edges.old) (⟦<E as SeenEdges>⟧.seen edges.new)
+    ensures ran { IfOk result.run (λ run. IsRunOf (at_paces topology (Q.feeds supply.now)) (is_ok run.end) topology run.core.journal.steps live.now (L.text topology run.core.journal.steps) run.unfed (⟦<E as SeenEdges>⟧.seen edges.old) (⟦<E as SeenEdges>⟧.seen edges.new)
         (clock_seen K.latest K.readings K.pauses clock) (clock_seen K.latest K.readings K.pauses result.clock)) }
     ensures ended { IfOk result.run (λ run. IfOk run.end (HasEnded topology run.core.journal.steps)) }
     ensures rate { IfOk result.run (λ run. IfSome topology.rate (λ rate. KeepsRate rate run.core.journal.steps)) }
     ensures boxes { IfOk result.run (λ run. AreBoxesLeft (is_ok run.end) topology run.core.journal.steps (map C.seen stock.items) (map C.seen result.stock.items)) }
-    ensures failed { IfErr result.run (λ e. IfUnopened e (λ name. HasFailed (at_paces topology (Q.feeds supply.now)) topology (live_calls (L.name live.now)) name (⟦<E as SeenEdges>⟧.seen edges.old) (⟦<E as SeenEdges>⟧.seen edges.new))) }
-    ensures wanting { IfErr result.run (λ e. IfWanting e (HasWanted (at_paces topology (Q.feeds supply.now)) topology (live_calls (L.name live.now)) (⟦<E as SeenEdges>⟧.seen edges.old) (⟦<E as SeenEdges>⟧.seen edges.new))) }
+    ensures failed { IfErr result.run (λ e. IfUnopened e (λ name. HasFailed (at_paces topology (Q.feeds supply.now)) topology live.now name (⟦<E as SeenEdges>⟧.seen edges.old) (⟦<E as SeenEdges>⟧.seen edges.new))) }
+    ensures wanting { IfErr result.run (λ e. IfWanting e (HasWanted (at_paces topology (Q.feeds supply.now)) topology live.now (⟦<E as SeenEdges>⟧.seen edges.old) (⟦<E as SeenEdges>⟧.seen edges.new))) }
     ensures same_boxes { OnErr result.run (AreSameBoxes (map C.seen stock.items) (map C.seen result.stock.items)) }
     ensures same_clock { OnErr result.run (result.clock ≡ clock) }
 {
     match hand_out::<C, B>(alloc, &topology, stock) {
         Ok((bodies, lent)) => {
-            let left = run_bodies(rt, alloc, supply, live, topology, workers, bodies, edges, clock);
+            let left = run_bodies::<R, E, Q, C, B, K, L>(
+                rt, alloc, supply, topology, workers, live, bodies, edges, clock,
+            );
             let Left { run, bodies, clock } = left;
             let mut bodies = bodies;
             let stock = take_back(&mut bodies, lent);
@@ -128,14 +131,14 @@ fn run_bodies<
     C: Boxed,
     B: Carries<C> + Houses<GatedSource<Q::Source>, E::Sink> + Send,
     K: Clock + Send,
-    L: Live<E>,
+    L: Live<E::Sink>,
 >(
     rt: &R,
     alloc: Global,
     supply: &Q,
-    live: &L,
     topology: Topology,
     workers: u16,
+    live: &Option<Text>,
     bodies: Vec<Option<B>>,
     edges: &mut E,
     clock: K,
@@ -146,13 +149,13 @@ fn run_bodies<
     requires handed { AreHandedOut topology (body_at B.look bodies.items) }
     ensures topology { IfOk result.run (λ run. run.core.topology ≡ topology) }
     ensures stands { IfOk result.run (λ run. Stands run.core) }
-    ensures ran { IfOk result.run (λ run. IsLiveRun (at_paces topology (Q.feeds supply.now)) (is_ok run.end) topology run.core.journal.steps (L.name live.now) (L.text live.now topology run.core.journal.steps) run.unfed (⟦<E as SeenEdges>⟧.seen edges.old) (⟦<E as SeenEdges>⟧.seen edges.new)
+    ensures ran { IfOk result.run (λ run. IsRunOf (at_paces topology (Q.feeds supply.now)) (is_ok run.end) topology run.core.journal.steps live.now (L.text topology run.core.journal.steps) run.unfed (⟦<E as SeenEdges>⟧.seen edges.old) (⟦<E as SeenEdges>⟧.seen edges.new)
         (clock_seen K.latest K.readings K.pauses clock) (clock_seen K.latest K.readings K.pauses result.clock)) }
     ensures ended { IfOk result.run (λ run. IfOk run.end (HasEnded topology run.core.journal.steps)) }
     ensures rate { IfOk result.run (λ run. IfSome topology.rate (λ rate. KeepsRate rate run.core.journal.steps)) }
     ensures boxes { IfOk result.run (λ run. LeavesCallbacks (is_ok run.end) topology run.core.journal.steps (body_at B.look bodies.items) (body_at B.look result.bodies.items)) }
-    ensures failed { IfErr result.run (λ e. IfUnopened e (λ name. HasFailed (at_paces topology (Q.feeds supply.now)) topology (live_calls (L.name live.now)) name (⟦<E as SeenEdges>⟧.seen edges.old) (⟦<E as SeenEdges>⟧.seen edges.new))) }
-    ensures wanting { IfErr result.run (λ e. IfWanting e (HasWanted (at_paces topology (Q.feeds supply.now)) topology (live_calls (L.name live.now)) (⟦<E as SeenEdges>⟧.seen edges.old) (⟦<E as SeenEdges>⟧.seen edges.new))) }
+    ensures failed { IfErr result.run (λ e. IfUnopened e (λ name. HasFailed (at_paces topology (Q.feeds supply.now)) topology live.now name (⟦<E as SeenEdges>⟧.seen edges.old) (⟦<E as SeenEdges>⟧.seen edges.new))) }
+    ensures wanting { IfErr result.run (λ e. IfWanting e (HasWanted (at_paces topology (Q.feeds supply.now)) topology live.now (⟦<E as SeenEdges>⟧.seen edges.old) (⟦<E as SeenEdges>⟧.seen edges.new))) }
     ensures same_callbacks { OnErr result.run (KeepsCallbacks (body_at B.look bodies.items) (body_at B.look result.bodies.items)) }
     ensures same_clock { OnErr result.run (result.clock ≡ clock) }
 {
@@ -165,35 +168,9 @@ fn run_bodies<
         };
     };
     match open_or_give_back(alloc, supply, core.topology(), &mut bodies, edges) {
-        Ok(control) => match live.open(alloc, core.topology(), edges) {
-            Ok(watch) => {
-                let Went {
-                    run,
-                    bodies,
-                    clock,
-                    watch,
-                } = run_opened(
-                    rt, alloc, supply, workers, core, control, bodies, edges, clock, watch,
-                );
-                let run = closed(run, live.give_back(watch, edges));
-                Left {
-                    run: Ok(run),
-                    bodies,
-                    clock,
-                }
-            }
-            Err(unopened) => {
-                let run = match give_back(supply, core.topology(), control, &mut bodies, edges) {
-                    Ok(()) => no_run(unopened),
-                    Err(_) => NoRun::OutOfMemory,
-                };
-                Left {
-                    run: Err(run),
-                    bodies,
-                    clock,
-                }
-            }
-        },
+        Ok(control) => run_live::<R, E, Q, B, K, L>(
+            rt, alloc, supply, workers, live, core, control, bodies, edges, clock,
+        ),
         Err(Unopened::Failed(name)) => Left {
             run: Err(NoRun::Unopened(name)),
             bodies,
@@ -207,7 +184,133 @@ fn run_bodies<
     }
 }
 
-/// The run, once its live sink was given back.
+/// Runs with what was opened, and with the live sink, where one is named, and gives all of it back.
+fn run_live<
+    R: Threads + Wait + Sync,
+    E: Edges,
+    Q: Supply<E>,
+    B: Houses<GatedSource<Q::Source>, E::Sink> + Send,
+    K: Clock + Send,
+    L: Live<E::Sink>,
+>(
+    rt: &R,
+    alloc: Global,
+    supply: &Q,
+    workers: u16,
+    live: &Option<Text>,
+    core: Core,
+    control: Option<LineSource<E::Source>>,
+    bodies: Vec<Option<B>>,
+    edges: &mut E,
+    clock: K,
+) -> Left<B, K>
+    requires stands { Stands core }
+    requires empty { core.journal.steps ≡ [] }
+    requires filled { IsFilled core.topology (body_at B.look bodies.items) }
+    requires fresh { IfSome (option_map (line_seen E.Source.ByteSource) control) IsFresh }
+    ensures topology { IfOk result.run (λ run. run.core.topology ≡ core.topology) }
+    ensures stands { IfOk result.run (λ run. Stands run.core) }
+    ensures ended { IfOk result.run (λ run. IfOk run.end (HasEnded core.topology run.core.journal.steps)) }
+    ensures went { IfOk result.run (λ run. WentWith live.now (at_paces core.topology (Q.feeds supply.now)) (is_ok run.end) core.topology run.core.journal.steps (L.text core.topology run.core.journal.steps) run.unfed
+        (body_at B.look bodies.items) (body_at B.look result.bodies.items) (option_map (line_seen E.Source.ByteSource) control) (⟦<E as SeenEdges>⟧.seen edges.old) (⟦<E as SeenEdges>⟧.seen edges.new) (clock_seen K.latest K.readings K.pauses clock) (clock_seen K.latest K.readings K.pauses result.clock)) }
+    ensures not_begun { IfErr result.run (λ e. NotBegun live.now (at_paces core.topology (Q.feeds supply.now)) core.topology (option_map (line_seen E.Source.ByteSource) control) (body_at B.look bodies.items) e (⟦<E as SeenEdges>⟧.seen edges.old) (⟦<E as SeenEdges>⟧.seen edges.new)) }
+    ensures same_callbacks { OnErr result.run (KeepsCallbacks (body_at B.look bodies.items) (body_at B.look result.bodies.items)) }
+    ensures same_clock { OnErr result.run (result.clock ≡ clock) }
+{
+    match live {
+        Some(name) => run_fed::<R, E, Q, B, K, L>(
+            rt, alloc, supply, workers, name, core, control, bodies, edges, clock,
+        ),
+        None => {
+            let Went {
+                run,
+                bodies,
+                clock,
+                watch,
+            } = run_opened(
+                rt, alloc, supply, workers, core, control, bodies, edges, clock, NoWatch,
+            );
+            let _ = watch;
+            Left {
+                run: Ok(run),
+                bodies,
+                clock,
+            }
+        }
+    }
+}
+
+/// The same with the live sink of this name, which is opened behind all that was opened, and is given back last.
+fn run_fed<
+    R: Threads + Wait + Sync,
+    E: Edges,
+    Q: Supply<E>,
+    B: Houses<GatedSource<Q::Source>, E::Sink> + Send,
+    K: Clock + Send,
+    L: Live<E::Sink>,
+>(
+    rt: &R,
+    alloc: Global,
+    supply: &Q,
+    workers: u16,
+    name: &Text,
+    core: Core,
+    control: Option<LineSource<E::Source>>,
+    bodies: Vec<Option<B>>,
+    edges: &mut E,
+    clock: K,
+) -> Left<B, K>
+    requires stands { Stands core }
+    requires empty { core.journal.steps ≡ [] }
+    requires filled { IsFilled core.topology (body_at B.look bodies.items) }
+    requires fresh { IfSome (option_map (line_seen E.Source.ByteSource) control) IsFresh }
+    ensures topology { IfOk result.run (λ run. run.core.topology ≡ core.topology) }
+    ensures stands { IfOk result.run (λ run. Stands run.core) }
+    ensures ended { IfOk result.run (λ run. IfOk run.end (HasEnded core.topology run.core.journal.steps)) }
+    ensures went { IfOk result.run (λ run. WentLive name.now (at_paces core.topology (Q.feeds supply.now)) (is_ok run.end) core.topology run.core.journal.steps (L.text core.topology run.core.journal.steps) run.unfed
+        (body_at B.look bodies.items) (body_at B.look result.bodies.items) (option_map (line_seen E.Source.ByteSource) control) (⟦<E as SeenEdges>⟧.seen edges.old) (⟦<E as SeenEdges>⟧.seen edges.new) (clock_seen K.latest K.readings K.pauses clock) (clock_seen K.latest K.readings K.pauses result.clock)) }
+    ensures not_begun { IfErr result.run (λ e. IsUndoneBy name.now (at_paces core.topology (Q.feeds supply.now)) core.topology (option_map (line_seen E.Source.ByteSource) control) (body_at B.look bodies.items) e (⟦<E as SeenEdges>⟧.seen edges.old) (⟦<E as SeenEdges>⟧.seen edges.new)) }
+    ensures same_callbacks { OnErr result.run (KeepsCallbacks (body_at B.look bodies.items) (body_at B.look result.bodies.items)) }
+    ensures same_clock { OnErr result.run (result.clock ≡ clock) }
+{
+    match open_live::<E, L>(alloc, name, core.topology(), edges) {
+        Ok(watch) => {
+            let Went {
+                run,
+                bodies,
+                clock,
+                watch,
+            } = run_opened(
+                rt, alloc, supply, workers, core, control, bodies, edges, clock, watch,
+            );
+            let back = back_sink(name, L::into_sink(watch), edges);
+            Left {
+                run: Ok(closed(run, back)),
+                bodies,
+                clock,
+            }
+        }
+        Err(why) => {
+            let mut bodies = bodies;
+            let run = undo(
+                supply,
+                name,
+                why,
+                core.topology(),
+                control,
+                &mut bodies,
+                edges,
+            );
+            Left {
+                run: Err(run),
+                bodies,
+                clock,
+            }
+        }
+    }
+}
+
+/// The run, once its live sink was given back, or there was no memory for that.
 fn closed(run: Run, back: Result<(), AllocError>) -> Run
     ensures core { result.core ≡ run.core }
     ensures unfed { result.unfed ≡ run.unfed }
@@ -225,13 +328,32 @@ fn closed(run: Run, back: Result<(), AllocError>) -> Run
     }
 }
 
-/// Why there was no run, where the live sink was not opened.
-fn no_run(unopened: Unopened) -> NoRun
-    ensures { result ≡ no_run_of unopened }
+/// Gives back what was opened, and then the live sink, if it is open, since there is no watch over it. It answers why there was no run.
+fn undo<E: Edges, Q: Supply<E>, B: Houses<GatedSource<Q::Source>, E::Sink>>(
+    supply: &Q,
+    name: &Text,
+    why: NotLive<E::Sink>,
+    topology: &Topology,
+    control: Option<LineSource<E::Source>>,
+    bodies: &mut Vec<Option<B>>,
+    edges: &mut E,
+) -> NoRun
+    requires sound { IsSound topology.now }
+    ensures undone { (begun : EdgesSeen) → IsLiveUnopened (sink_seen E.Sink.told E.Sink.held E.Sink.faults) name.now why begun (⟦<E as SeenEdges>⟧.seen edges.old)
+        → IsUndoneBy name.now (at_paces topology.now (Q.feeds supply.now)) topology.now (option_map (line_seen E.Source.ByteSource) control) (body_at B.look bodies.old.items) result begun (⟦<E as SeenEdges>⟧.seen edges.new) }
+    ensures callbacks { KeepsCallbacks (body_at B.look bodies.old.items) (body_at B.look bodies.new.items) }
 {
-    match unopened {
-        Unopened::Failed(name) => NoRun::Unopened(name),
-        Unopened::OutOfMemory => NoRun::OutOfMemory,
+    let back = give_back(supply, topology, control, bodies, edges);
+    match why {
+        NotLive::Failed(failed) => match back {
+            Ok(()) => NoRun::Unopened(failed),
+            Err(_) => NoRun::OutOfMemory,
+        },
+        NotLive::Unopened => NoRun::OutOfMemory,
+        NotLive::Opened(sink) => {
+            let _ = back_sink(name, sink, edges);
+            NoRun::OutOfMemory
+        }
     }
 }
 

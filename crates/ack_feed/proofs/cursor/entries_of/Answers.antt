@@ -10,5 +10,5 @@ use Rattle.ack_feed.proofs.cursor.entries_of.Goals as goal
 pub returns : goal.returns
 returns c = λ before step is.
     let run = c.args.run.now in
-    grouped run.topology before step c.in_ok-acks.acks c.journal.ensures.sound (subst (λ (h : History). is_legal run.topology h ≡ true) is c.journal.ensures.legal)
-    (subst (λ (vs : List Verdict). AreAcknowledgements vs c.in_ok-acks.acks) (c.in_ok-verdicts.ensures ∙ (λ i. verdicts_of run.topology (is i) (settled_last run.topology (is i)))) c.in_ok-acks.ensures)
+    grouped run.topology before step c.in_ok-acks.acks c.journal-journal.ensures.sound (subst (λ (h : History). is_legal run.topology h ≡ true) is c.journal-journal.ensures.legal)
+    (subst (λ (vs : List Verdict). AreAcknowledgements vs c.in_ok-acks.acks) (c.deref.ensures.value ∙ c.in_ok-verdicts.ensures ∙ (λ i. verdicts_of run.topology (is i) (settled_last run.topology (is i)))) c.in_ok-acks.ensures)

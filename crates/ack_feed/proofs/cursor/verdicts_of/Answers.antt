@@ -18,13 +18,13 @@ loop-at-preserved c =
     ∙ (ap (λ (vs : List Verdict). vs ++ verdict_in row ∷ []) c.loop-at.invariant
     ∙ sym (verdicts_on run.topology run.steps (settled_last run.topology run.steps) c.loop-at.at row (sym (ap (option_map row_seen) c.in-Some.is) ∙ c.settled.ensures.row)))
 
-pub returns-in-None : goal.returns-in-None
-returns-in-None c =
+pub returns-in_default : goal.returns-in_default
+returns-in_default c =
     let run = c.args.run.now in
-    c.loop-at.invariant ∙ ap (verdicts_of run.topology run.steps) (all_there (settled_last run.topology run.steps) c.loop-at.at (sym (ap is_some c.in-None.is) ∙ c.settled.ensures.past))
+    c.loop-at.invariant ∙ ap (verdicts_of run.topology run.steps) (all_there (settled_last run.topology run.steps) c.loop-at.at (sym (ap is_some c.in_default.is) ∙ c.settled.ensures.past))
 
 pub returns : goal.returns
 returns c =
     let run = c.args.run.now in
     let few = settled_few run.topology run.steps in
-    c.loop-at.invariant ∙ ap (verdicts_of run.topology run.steps) (take_all c.loop-at.at (settled_last run.topology run.steps) (omega (arith, few, c.accepted.ensures)))
+    c.loop-at.invariant ∙ ap (verdicts_of run.topology run.steps) (take_all c.loop-at.at (settled_last run.topology run.steps) (omega (arith, few, c.accepted-at-end.ensures)))
