@@ -19,3 +19,9 @@ re_sub('proofs/Clauses.antt',(r'\bbegun_refusal held','begun_refusal before held
  (r'begun_refusal : \(held','begun_refusal : (before : History) (held'),(r'begun_early : \(fails : List ℕ → Type 0\) \(held','begun_early : (fails : List ℕ → Type 0) (before : History) (held'))
 for p in ['src/file.rt','src/audit.rt']: re_sub(p,(r'steps: None,','steps: false,'))
 sub('src/program.rt',('write_verdict(alloc, &verdict, out, err)','write_verdict(alloc, &verdict, &journal, out, err)'))
+import glob
+for p in glob.glob(top+'/proofs/**/*.antt',recursive=True):
+    s=open(p).read(); t=re.sub(r'steps = None\b','steps = false',s)
+    if t!=s:
+        t=re.sub(r'(use Rattle\.std\.proofs\.Common\.\{)',r'\1false, ',t,count=1) if 'use Rattle.std.proofs.Common.{' in t else 'use Rattle.std.proofs.Common.{false}\n'+t
+        open(p,'w').write(t)
