@@ -1,5 +1,5 @@
 -- What follows for the lines of a merge.
-use Rattle.std.proofs.Common.{◌≡◌, ℕ, List, [], ◌∷◌, ◌++◌, refl, sym, ap, ◌∙◌}
+use Rattle.std.proofs.Common.{◌≡◌, ℕ, List, [], ◌++◌, refl, sym, ap, ◌∙◌}
 use Rattle.std.specs.Prelude.{Option, Some, None, IsTrue, IfSome, slice_get}
 use Rattle.pipe_types.specs.Lines.{lines}
 use Rattle.pipe_edges.specs.declared.reading.LineEnd.{LineEnd}

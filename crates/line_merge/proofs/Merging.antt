@@ -1,5 +1,5 @@
 -- What was given of the sources of a merge.
-use Rattle.std.proofs.Common.{◌≡◌, ◌≤◌, ◌<◌, ◌+◌, ◌-◌, ℕ, zero, suc, Bool, true, List, [], ◌∷◌, ◌++◌, length, refl, sym, ap, ◌∙◌, arith, inl, inr}
+use Rattle.std.proofs.Common.{◌≡◌, ◌≤◌, ◌<◌, ◌+◌, ◌-◌, ℕ, zero, suc, true, List, [], ◌∷◌, ◌++◌, length, refl, arith, inl, inr}
 use Rattle.std.specs.Prelude.{Option, Some, None, IfSome, IsSomeAnd, All, slice_get, option_map, map, ◌==◌}
 use Rattle.std.specs.List.{filter, sum_by}
 use Rattle.std.proofs.lemmas.List.Sums.{sum_by-cons}
@@ -12,11 +12,10 @@ use Rattle.std.proofs.lemmas.Option.{slice_get_within, slice_get-map}
 use Rattle.pipe_edges.specs.declared.source.ByteSource.{Ghosts as SourceOf}
 use Rattle.pipe_edges.specs.Paces.{unpaced}
 use Rattle.pipe_edges.specs.LineSource.{line_source}
-use Rattle.pipe_edges.specs.LineSource.{line_end_of}
 use Rattle.pipe_edges.specs.declared.reading.LineEnd.TheVariants as end
 use Rattle.source_lines.specs.Seen.{SourceSeen, LineSeen, line_seen}
 use Rattle.source_lines.specs.Read.{AreReadFrom}
-use Rattle.line_merge.specs.Items.{lines_from, places_in, given_of, given_by, end_by, item_of, answer_by, next_place, behind}
+use Rattle.line_merge.specs.Items.{lines_from, places_in, given_of, end_by, item_of, answer_by, next_place}
 use Rattle.line_merge.specs.Streams.{Both, There, lines_of}
 use Rattle.line_merge.specs.Tries.{Gives, WasOpen, HasWaited, HasEnded, HasFailed, HasTooLong, RoundHasCause}
 use Rattle.line_merge.specs.Seen.{MergeSeen, AreMergedFrom, IsMergeEnd, AreUnpaced, end_seen}

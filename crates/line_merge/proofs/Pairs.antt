@@ -1,5 +1,5 @@
 -- Things that are both there.
-use Rattle.std.proofs.Common.{◌≡◌, ℕ, refl}
+use Rattle.std.proofs.Common.{◌≡◌}
 use Rattle.std.specs.Prelude.{Option, Some, None}
 use Rattle.line_merge.specs.Streams.{Both, There}
 

@@ -1,20 +1,19 @@
 -- Tries in order.
-use Rattle.std.proofs.Common.{◌≡◌, ◌≢◌, ◌≤◌, ◌<◌, ◌+◌, ℕ, Bool, true, false, List, [], ◌∷◌, ◌++◌, length, refl, sym, ap, subst, ◌∙◌, arith, inl, inr}
-use Rattle.std.specs.Prelude.{Option, Some, None, slice_get, nat_lt, nat_le, ◌&&◌, ◌==◌, cond, map}
-use Rattle.std.specs.List.{filter}
+use Rattle.std.proofs.Common.{◌≡◌, ◌≢◌, ◌≤◌, ◌<◌, ◌+◌, ℕ, Bool, true, false, List, [], ◌∷◌, refl, subst, arith, inl, inr}
+use Rattle.std.specs.Prelude.{Option, Some, None, ◌==◌, cond}
 use Rattle.std.proofs.lemmas.Bool.Decides.{nat_tests}
 use Rattle.std.proofs.lemmas.List.{append-nil}
 use Rattle.pipe_edges.specs.declared.source.ByteSource.{Ghosts as SourceOf}
 use Rattle.pipe_edges.specs.declared.reading.LineEnd.TheVariants as end
-use Rattle.line_merge.specs.Items.{item_in, line_of, given_of, given_in, lines_from}
+use Rattle.line_merge.specs.Items.{item_in, line_of, given_of, lines_from}
 use Rattle.line_merge.specs.Streams.{Both, There}
-use Rattle.line_merge.specs.Tries.{Gives, HasNone, HasEnded, HasWaited, TakenHasCause, IsTriedIf, AreTried, IsFound, Finds, IsFoundIn, RangeHasCause, is_in, WasOpen, HasFailed, HasTooLong}
+use Rattle.line_merge.specs.Tries.{Gives, HasNone, HasWaited, TakenHasCause, IsTriedIf, AreTried, IsFound, RangeHasCause, is_in, WasOpen, HasFailed, HasTooLong}
 use Rattle.line_merge.specs.declared.stream.Stream.{Stream}
 use Rattle.line_merge.specs.declared.item.MergeItem.{MergeItem}
 use Rattle.line_merge.specs.declared.item.MergeItem.TheVariants as item
 use Rattle.line_merge.specs.declared.item.Taken.{Taken}
 use Rattle.line_merge.specs.declared.item.Taken.TheVariants.{Line, NotYet, Ended}
-use Rattle.line_merge.proofs.Pairs.{both_map, both_then, there_then, there_map, there_both, both_same}
+use Rattle.line_merge.proofs.Pairs.{both_then, there_then, there_both, both_same}
 use Rattle.line_merge.proofs.Taking.{gives_none}
 
 -- ---- places

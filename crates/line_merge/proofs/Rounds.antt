@@ -1,17 +1,17 @@
 -- A round of two ranges.
-use Rattle.std.proofs.Common.{◌≡◌, ◌≢◌, ◌≤◌, ◌<◌, ℕ, Bool, true, false, List, [], length, refl, sym, ap, ◌∙◌, arith, inl, inr}
-use Rattle.std.specs.Prelude.{Option, Some, None, Result, Ok, Err, IfOk, slice_get, nat_lt, nat_le, ◌&&◌, ◌||◌, IfSome, IsSomeAnd}
+use Rattle.std.proofs.Common.{◌≡◌, ◌≢◌, ◌≤◌, ◌<◌, ℕ, Bool, true, false, List, [], length, refl, arith, inl, inr}
+use Rattle.std.specs.Prelude.{Option, Some, None, Result, Ok, Err, IfOk, slice_get, nat_lt, ◌||◌, IfSome, IsSomeAnd}
 use Rattle.std.proofs.lemmas.Bool.Decides.{nat_tests}
 use Rattle.std.proofs.lemmas.Option.{slice_get_past}
 use Rattle.pipe_edges.specs.declared.source.ByteSource.{Ghosts as SourceOf}
 use Rattle.line_merge.specs.Items.{given_of}
 use Rattle.line_merge.specs.Streams.{Both, There, is_open_in}
 use Rattle.line_merge.specs.Opening.{SomeIsOpen, NoneIsOpen, IsWithout, RestHasCause}
-use Rattle.line_merge.specs.Tries.{HasNone, HasEnded, HasWaited, IsTriedIf, AreTried, IsFound, Finds, IsFoundIn, RangeHasCause, RoundHasCause, is_in, comes_before, WasOpen, HasFailed, HasTooLong}
+use Rattle.line_merge.specs.Tries.{HasNone, HasEnded, HasWaited, IsTriedIf, AreTried, IsFound, RangeHasCause, RoundHasCause, is_in, comes_before, WasOpen, HasFailed, HasTooLong}
 use Rattle.line_merge.specs.declared.stream.Stream.{Stream}
 use Rattle.line_merge.specs.declared.item.MergeItem.{MergeItem}
 use Rattle.line_merge.specs.declared.item.MergeItem.TheVariants as item
-use Rattle.line_merge.proofs.Pairs.{both_map, both_then, there_then, both_same}
+use Rattle.line_merge.proofs.Pairs.{both_then, there_then}
 
 -- ---- found in the first range
 

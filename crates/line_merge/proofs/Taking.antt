@@ -1,6 +1,6 @@
 -- One try of a source.
-use Rattle.std.proofs.Common.{◌≡◌, ℕ, Bool, true, false, List, [], ◌∷◌, ◌++◌, length, refl, sym, ap, subst, ◌∙◌, arith}
-use Rattle.std.specs.Prelude.{Option, Some, None, Result, Ok, Err, IsNone, IfSome, IfOk}
+use Rattle.std.proofs.Common.{◌≡◌, ℕ, Bool, true, false, List, [], length, refl, sym, subst, ◌∙◌, arith}
+use Rattle.std.specs.Prelude.{Option, Some, None, Result, Ok, IfSome}
 use Rattle.std.proofs.lemmas.List.{append-nil}
 use Rattle.std.proofs.lemmas.List.Elements.{All-nil}
 use Rattle.pipe_edges.specs.Texts.{IsLine}
@@ -9,7 +9,7 @@ use Rattle.pipe_edges.specs.declared.source.ByteSource.{Ghosts as SourceOf}
 use Rattle.pipe_edges.specs.LineSource.{line_source, waiting, line_end_of}
 use Rattle.pipe_edges.specs.Paces.{PaceSeen, unpaced}
 use Rattle.pipe_edges.specs.Pacing.{FetchIsPacedBy}
-use Rattle.pipe_edges.specs.Fetch.{answer_of, records_in, records_of, FetchHasCause, Remembers}
+use Rattle.pipe_edges.specs.Fetch.{answer_of, records_in, records_of, Remembers}
 use Rattle.pipe_edges.specs.declared.lines.LineSource.{LineSource}
 use Rattle.pipe_edges.specs.declared.reading.LineEnd.{LineEnd}
 use Rattle.pipe_edges.specs.declared.reading.LineEnd.TheVariants as end
@@ -18,9 +18,9 @@ use Rattle.pipe_edges.specs.declared.reading.Fetched.TheVariants as fetched
 use Rattle.source_lines.proofs.Fetches.{Fetches, reads_on}
 use Rattle.source_lines.specs.Seen.{line_seen}
 use Rattle.source_lines.specs.Read.{ReadsOn}
-use Rattle.line_merge.specs.Items.{line_in, line_of, fetched_by, leaves_open, IsSingle}
+use Rattle.line_merge.specs.Items.{line_of, fetched_by, leaves_open, IsSingle}
 use Rattle.line_merge.specs.Streams.{lines_of, is_open_in}
-use Rattle.line_merge.specs.Tries.{Gives, TakenHasCause, HasWaited, HasEnded}
+use Rattle.line_merge.specs.Tries.{Gives, TakenHasCause}
 use Rattle.line_merge.specs.declared.stream.Stream.{Stream}
 use Rattle.line_merge.specs.declared.item.Taken.{Taken}
 use Rattle.line_merge.specs.declared.item.Taken.TheVariants.{Line, NotYet, Ended}

@@ -5,6 +5,7 @@
 //! has left. Its clauses on bytes hold where the source tells them.
 #![tactic(auto)]
 
+mod found;
 mod item;
 mod laws;
 mod list;

@@ -5,9 +5,10 @@ ghost use Rattle.line_merge.specs.Items.{item_of, end_by, given_by, next_place, 
 ghost use Rattle.pipe_edges.specs.{Fetch.{records_in}, Texts.{IsLine}};
 ghost use Rattle.source_lines.specs.Seen.{SourceSeen, source_seen};
 
+use crate::found::Found;
 use crate::item::{MergeEnd, MergeItem};
 use crate::list::SourceList;
-use crate::order::{note, place_after};
+use crate::order::place_after;
 use crate::stream::Stream;
 use crate::streams::{close_all, open_all};
 use crate::tries::next_round;
@@ -20,7 +21,6 @@ pub const MAX_STREAMS: usize = 64;
 /// Hands out the lines of 2 to 64 sources.
 #[derive(Drop)]
 pub struct LineMerge<B> {
-    alloc: Global,
     streams: Vec<Stream<B>>,
     order: Vec<u16>,
     end: Option<MergeEnd>,
@@ -52,7 +52,6 @@ impl<B: ByteSource + Drop> LineMerge<B> {
     {
         match open_all(alloc, sources.into_vec()) {
             Ok((streams, room)) => Ok(LineMerge {
-                alloc,
                 streams,
                 order: Vec::new(alloc),
                 end: None,
@@ -67,13 +66,12 @@ impl<B: ByteSource + Drop> LineMerge<B> {
         ensures { result ≡ sources_of self }
     {
         let LineMerge {
-            alloc,
             streams,
             order,
             end,
             room,
         } = self;
-        let _ = (alloc, end);
+        let _ = end;
         drop(order);
         SourceList::from_vec(close_all(streams, room))
     }
@@ -83,6 +81,37 @@ impl<B: ByteSource + Drop> LineMerge<B> {
         ensures { result.now ≡ places_of self.now }
     {
         self.order.as_slice()
+    }
+
+    // One round, if no end is known, and what it found.
+    fn go_round(&mut self) -> Result<Found, AllocError>
+        ensures merged { (opened : List SourceSeen) (given : List (ℕ × List ℕ)) → AreMergedFrom opened (merge_seen B.ByteSource self.old) given
+            → AreMergedFrom opened (merge_seen B.ByteSource self.new) (given ++ given_by result) }
+        ensures each_is_a_line { All IsLine (map (λ d. d.1) (given_by result)) }
+        ensures order { places_of self.new ≡ places_of self.old ++ places_in (given_by result) }
+        ensures cause { IfOk result (λ item. IsNone (merge_end_of self.old)
+            → RoundHasCause B.ByteSource (next_place (places_of self.old)) (stream_at self.old) (stream_at self.new) item) }
+        ensures remembers { IfOk result (λ item. merge_end_of self.new ≡ end_by item) }
+        ensures again { IfSome (merge_end_of self.old) (λ e. (result ≡ Ok (item_of e)) × (self.new ≡ self.old)) }
+        ensures unpaced { AreUnpaced (merge_seen B.ByteSource self.old) → AreUnpaced (merge_seen B.ByteSource self.new) }
+        ensures rises { IfOk result (λ item. RisesIfNotYet item (waits_together (merge_seen B.ByteSource self.old)) (waits_together (merge_seen B.ByteSource self.new))) }
+        ensures waits_stay { waits_together (merge_seen B.ByteSource self.old) ≤ waits_together (merge_seen B.ByteSource self.new) }
+    {
+        if let Some(end) = self.end {
+            return Ok(end.found());
+        }
+        if let Err(e) = self.order.reserve(1) {
+            return Err(e);
+        }
+        let first = place_after(self.order.as_slice());
+        match next_round(&mut self.streams, first) {
+            Ok(found) => {
+                self.end = found.end();
+                found.note(&mut self.order);
+                Ok(found)
+            }
+            Err(e) => Err(e),
+        }
     }
 
     /// Tries the open sources once each, from the place after the last line's round to that place: the first that has a line
@@ -103,19 +132,8 @@ impl<B: ByteSource + Drop> LineMerge<B> {
         ensures rises { IfOk result (λ item. RisesIfNotYet item (waits_together (merge_seen B.ByteSource self.old)) (waits_together (merge_seen B.ByteSource self.new))) }
         ensures waits_stay { waits_together (merge_seen B.ByteSource self.old) ≤ waits_together (merge_seen B.ByteSource self.new) }
     {
-        if let Some(end) = self.end {
-            return Ok(end.item());
-        }
-        if let Err(e) = self.order.reserve(1) {
-            return Err(e);
-        }
-        let first = place_after(self.order.as_slice());
-        match next_round(&mut self.streams, first) {
-            Ok(item) => {
-                self.end = item.end();
-                note(&mut self.order, &item);
-                Ok(item)
-            }
+        match self.go_round() {
+            Ok(found) => Ok(found.into_item()),
             Err(e) => Err(e),
         }
     }
@@ -135,11 +153,8 @@ impl<B: ByteSource + Drop> LineMerge<B> {
         ensures waits_stay { waits_together (merge_seen B.ByteSource self.old) ≤ waits_together (merge_seen B.ByteSource self.new) }
     {
         let _ = max;
-        match Vec::with_capacity(self.alloc, 1) {
-            Ok(room) => match self.poll() {
-                Ok(item) => Ok(item.into_fetched(room)),
-                Err(e) => Err(e),
-            },
+        match self.go_round() {
+            Ok(found) => Ok(found.into_fetched()),
             Err(e) => Err(e),
         }
     }

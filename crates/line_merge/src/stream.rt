@@ -1,12 +1,12 @@
 //! One source of a merge.
 
-ghost use Rattle.std.specs.Prelude.{◌≡◌, ◌∷◌, [], true, false, Some, IfOk, IfErr, length};
+ghost use Rattle.std.specs.Prelude.{◌≡◌, true, false, Some, IfOk, IfErr};
 ghost use Rattle.pipe_edges.specs.{LineSource.{line_source, line_end_of}, declared.reading.LineEnd.TheVariants.{End}};
 ghost use Rattle.line_merge.specs.Items.{line_in, fetched_by, IsSingle};
 
+use crate::found::LoneLine;
 use crate::item::Taken;
 use pipe_edges::{ByteSource, Fetched, LineEnd, LineSource};
-use pipe_types::bytes::{Bytes, BytesList};
 use std::alloc::{AllocError, Global};
 
 // A source with its lines, and whether it has not answered its end yet.
@@ -17,24 +17,13 @@ pub struct Stream<B> {
     ghost closed_at_end: { is_open ≡ false → line_end_of lines ≡ Some End },
 }
 
-fn only_line(records: BytesList) -> Bytes
-    requires { length records ≡ 1 }
-    ensures { records ≡ result ∷ [] }
-{
-    let mut lines = records.into_vec();
-    match lines.pop() {
-        Some(line) => line,
-        None => unreachable!(),
-    }
-}
-
 // A fetch of one line.
 fn taken_of(fetched: Fetched) -> Taken
     requires { IsSingle fetched }
     ensures { fetched ≡ fetched_by result }
 {
     match fetched {
-        Fetched::Records(records) => Taken::Line(only_line(records)),
+        Fetched::Records(records) => Taken::Line(LoneLine::of_list(records)),
         Fetched::NotYet => Taken::NotYet,
         Fetched::End => Taken::Ended(LineEnd::End),
         Fetched::Fault => Taken::Ended(LineEnd::Fault),

@@ -4,7 +4,8 @@ ghost use Rattle.std.specs.Prelude.{◌≡◌, ◌≤◌, ◌<◌, ℕ, true, fa
 ghost use Rattle.line_merge.specs.{Items.{line_in, lines_from, given_in, given_by}, Streams.{Both, There}, Tries.{Gives, TakenHasCause, RangeHasCause, RoundHasCause}};
 ghost use Rattle.line_merge.specs.Opening.{SomeIsOpen, NoneIsOpen, IsWithout, RestHasCause};
 
-use crate::item::{MergeItem, Taken};
+use crate::found::{Found, FoundKind};
+use crate::item::Taken;
 use crate::stream::Stream;
 use pipe_edges::ByteSource;
 use std::alloc::AllocError;
@@ -25,7 +26,7 @@ fn try_range<B: ByteSource>(
     streams: &mut Vec<Stream<B>>,
     from: usize,
     to: usize,
-) -> Result<Option<MergeItem>, AllocError>
+) -> Result<Option<Found>, AllocError>
     requires ordered { from ≤ to }
     requires within { to ≤ length streams.old.items }
     requires few { length streams.old.items ≤ 64 }
@@ -59,13 +60,13 @@ fn is_any_open<B: ByteSource>(streams: &[Stream<B>]) -> bool
 }
 
 // What a round comes to in which no source has a line.
-fn without_line<B: ByteSource>(streams: &[Stream<B>]) -> MergeItem
+fn without_line<B: ByteSource>(streams: &[Stream<B>]) -> Found
     ensures { IsWithout (slice_get streams.now) result }
 {
     if is_any_open(streams) {
-        MergeItem::NotYet
+        Found::new(FoundKind::NotYet)
     } else {
-        MergeItem::End
+        Found::new(FoundKind::End)
     }
 }
 
@@ -73,7 +74,7 @@ fn without_line<B: ByteSource>(streams: &[Stream<B>]) -> MergeItem
 fn rest_of_round<B: ByteSource>(
     streams: &mut Vec<Stream<B>>,
     first: usize,
-) -> Result<MergeItem, AllocError>
+) -> Result<Found, AllocError>
     requires within { first ≤ length streams.old.items }
     requires few { length streams.old.items ≤ 64 }
     ensures len { length streams.new.items ≡ length streams.old.items }
@@ -91,7 +92,7 @@ fn rest_of_round<B: ByteSource>(
 pub(crate) fn next_round<B: ByteSource>(
     streams: &mut Vec<Stream<B>>,
     first: usize,
-) -> Result<MergeItem, AllocError>
+) -> Result<Found, AllocError>
     requires within { first ≤ length streams.old.items }
     requires few { length streams.old.items ≤ 64 }
     ensures len { length streams.new.items ≡ length streams.old.items }

@@ -1,4 +1,4 @@
-use Rattle.std.proofs.Common.{◌≡◌, ◌≤◌, length, refl, sym, arith}
+use Rattle.std.proofs.Common.{◌≡◌, ◌≤◌, length, arith}
 use Rattle.std.specs.Prelude.{slice_get}
 use Rattle.line_merge.specs.Items.{lines_from, given_by}
 use Rattle.line_merge.proofs.Ranges.{gives_then}

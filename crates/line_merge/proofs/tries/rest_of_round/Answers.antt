@@ -1,8 +1,5 @@
 use Rattle.std.proofs.Common.{inl, inr}
 use Rattle.std.specs.Prelude.{slice_get}
-use Rattle.line_merge.specs.Items.{lines_from}
-use Rattle.line_merge.specs.Streams.{Both}
-use Rattle.line_merge.specs.Tries.{Gives}
 use Rattle.line_merge.proofs.Rounds.{without_lines}
 use Rattle.line_merge.proofs.tries.rest_of_round.Goals as goal
 

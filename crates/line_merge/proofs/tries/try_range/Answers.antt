@@ -1,4 +1,4 @@
-use Rattle.std.proofs.Common.{sym, ◌∙◌, arith}
+use Rattle.std.proofs.Common.{sym, ◌∙◌}
 use Rattle.std.specs.Prelude.{slice_get}
 use Rattle.line_merge.proofs.Ranges.{found_in_range, tried_all}
 use Rattle.line_merge.proofs.tries.try_range.Goals as goal

@@ -1,5 +1,5 @@
-use Rattle.std.proofs.Common.{ap, ◌∙◌, refl}
-use Rattle.std.specs.Prelude.{Ok, Err}
+use Rattle.std.proofs.Common.{ap, ◌∙◌}
+use Rattle.std.specs.Prelude.{Ok}
 use Rattle.pipe_edges.specs.Fetch.{records_of}
 use Rattle.line_merge.specs.Items.{line_of}
 use Rattle.line_merge.proofs.Taking.{gives_on, records_by}
