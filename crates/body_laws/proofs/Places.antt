@@ -7,7 +7,7 @@ use Rattle.pipe_types.specs.declared.numbers.SubNo.{SubNo}
 use Rattle.pipe_types.specs.declared.topology.Topology.{Topology}
 use Rattle.pipe_types.specs.declared.message.Place.{Place}
 use Rattle.pipe_types.specs.declared.message.Outcome.TheVariants.{Successful}
-use Rattle.pipe_types.specs.declared.message.Place.TheVariants.{Waiting, Inbox, Running, Gathered, InBatch, Acked, Lost}
+use Rattle.pipe_types.specs.declared.message.Place.TheVariants.{Waiting, Inbox, Running, Gathered, InBatch, Acked}
 use Rattle.pipe_types.specs.declared.message.Reply.{Reply}
 use Rattle.pipe_types.specs.declared.message.Reply.TheVariants.{Pass, Failed as FailedReply, Raised, Crashed}
 use Rattle.pipe_types.specs.declared.message.Why.{Why}
@@ -52,16 +52,12 @@ dispatched_fine units over alone s n (Waiting t) h = by_stage (same_stage s t) (
     by_stage true [] false = refl
     by_stage true (u ∷ subs) is_over = refl
     by_stage false subs is_over = refl
-dispatched_fine units over alone s n (Inbox u) h = refl
-dispatched_fine units over alone s n (Running t) h = refl
-dispatched_fine units over alone s n (Gathered t) h = refl
 dispatched_fine units over alone s n (InBatch b) h = by_lone (among alone b.0)
   where
     by_lone : (a : Bool) → is_acked_failed (Some (if a then Acked Successful else InBatch b)) ≡ false
     by_lone true = refl
     by_lone false = refl
-dispatched_fine units over alone s n (Acked o) h = h
-dispatched_fine units over alone s n (Lost l) h = refl
+dispatched_fine units over alone s n p h = h
 
 taken_fine : (chunk : List ℕ) (s : StageNo) (n : ℕ) (p : Place) → is_acked_failed (Some p) ≡ false → is_acked_failed (Some (taken chunk s n p)) ≡ false
 taken_fine chunk s n (Inbox u) h = either (same_stage s u.consumer && among chunk n)
@@ -69,12 +65,7 @@ taken_fine chunk s n (Inbox u) h = either (same_stage s u.consumer && among chun
     either : (b : Bool) → is_acked_failed (Some (if b then Running s else Inbox u)) ≡ false
     either true = refl
     either false = refl
-taken_fine chunk s n (Waiting t) h = refl
-taken_fine chunk s n (Running t) h = refl
-taken_fine chunk s n (Gathered t) h = refl
-taken_fine chunk s n (InBatch b) h = refl
-taken_fine chunk s n (Acked o) h = h
-taken_fine chunk s n (Lost l) h = refl
+taken_fine chunk s n p h = h
 
 -- no reply, or a pass
 abbrev passed_or_none : Option Reply → Bool
@@ -105,12 +96,7 @@ done_fine b chunk replies s n good (Running t) h = either (same_stage s t)
     either : (a : Bool) → is_acked_failed (Some (if a then answered b s (reply_to chunk replies n) else Running t)) ≡ false
     either true = answered_fine b s (reply_to chunk replies n) (reply_passes chunk replies n good)
     either false = refl
-done_fine b chunk replies s n good (Waiting t) h = refl
-done_fine b chunk replies s n good (Inbox u) h = refl
-done_fine b chunk replies s n good (Gathered t) h = refl
-done_fine b chunk replies s n good (InBatch m) h = refl
-done_fine b chunk replies s n good (Acked o) h = h
-done_fine b chunk replies s n good (Lost l) h = refl
+done_fine b chunk replies s n good p h = h
 
 gathered_fine : (s : StageNo) (m n : ℕ) (p : Place) → is_acked_failed (Some p) ≡ false → is_acked_failed (Some (gathered s m n p)) ≡ false
 gathered_fine s m n (Inbox u) h = either (same_stage s u.consumer && m == n)
@@ -118,12 +104,7 @@ gathered_fine s m n (Inbox u) h = either (same_stage s u.consumer && m == n)
     either : (b : Bool) → is_acked_failed (Some (if b then Gathered s else Inbox u)) ≡ false
     either true = refl
     either false = refl
-gathered_fine s m n (Waiting t) h = refl
-gathered_fine s m n (Running t) h = refl
-gathered_fine s m n (Gathered t) h = refl
-gathered_fine s m n (InBatch b) h = refl
-gathered_fine s m n (Acked o) h = h
-gathered_fine s m n (Lost l) h = refl
+gathered_fine s m n p h = h
 
 joined_fine : (numbers : List ℕ) (s : StageNo) (b n : ℕ) (p : Place) → is_acked_failed (Some p) ≡ false → is_acked_failed (Some (put_in_batch numbers s b n p)) ≡ false
 joined_fine numbers s b n (Gathered t) h = either (same_stage s t && among numbers n)
@@ -131,21 +112,11 @@ joined_fine numbers s b n (Gathered t) h = either (same_stage s t && among numbe
     either : (a : Bool) → is_acked_failed (Some (if a then InBatch (batch_no b) else Gathered t)) ≡ false
     either true = refl
     either false = refl
-joined_fine numbers s b n (Waiting t) h = refl
-joined_fine numbers s b n (Inbox u) h = refl
-joined_fine numbers s b n (Running t) h = refl
-joined_fine numbers s b n (InBatch m) h = refl
-joined_fine numbers s b n (Acked o) h = h
-joined_fine numbers s b n (Lost l) h = refl
+joined_fine numbers s b n p h = h
 
 by_batch_fine : (after : ℕ → Option Batch) (n : ℕ) → ((b : ℕ) → batch_passes (after b) ≡ true) → (p : Place) → is_acked_failed (Some p) ≡ false → is_acked_failed (Some (by_batch after n p)) ≡ false
 by_batch_fine after n good (InBatch b) h = batch_leaves b.0 (after b.0) n (good b.0)
-by_batch_fine after n good (Waiting t) h = refl
-by_batch_fine after n good (Inbox u) h = refl
-by_batch_fine after n good (Running t) h = refl
-by_batch_fine after n good (Gathered t) h = refl
-by_batch_fine after n good (Acked o) h = h
-by_batch_fine after n good (Lost l) h = refl
+by_batch_fine after n good p h = h
 
 child_fine : (again : Bool) (s : StageNo) (i : ℕ) (reply : Reply) → is_passed reply ≡ true → is_acked_failed (Some (child_place again s i reply)) ≡ false
 child_fine again s i (Pass m) h = refl
@@ -159,12 +130,7 @@ ended_fine again ended s i reply n good (Running t) h = either (same_stage s t &
     either : (a : Bool) → is_acked_failed (Some (if a then child_place again s i reply else Running t)) ≡ false
     either true = child_fine again s i reply good
     either false = refl
-ended_fine again ended s i reply n good (Waiting t) h = refl
-ended_fine again ended s i reply n good (Inbox u) h = refl
-ended_fine again ended s i reply n good (Gathered t) h = refl
-ended_fine again ended s i reply n good (InBatch b) h = refl
-ended_fine again ended s i reply n good (Acked o) h = h
-ended_fine again ended s i reply n good (Lost l) h = refl
+ended_fine again ended s i reply n good p h = h
 
 lost_fine : (i : ℕ) (s : StageNo) (why : Option Why) (p : Place) → is_acked_failed (Some p) ≡ false → is_acked_failed (Some (lost_with i s why p)) ≡ false
 lost_fine i s None p h = h
@@ -175,9 +141,7 @@ killed_fine set incarnation (Waiting s) h = lost_fine (incarnation s) s (reason_
 killed_fine set incarnation (Inbox u) h = lost_fine (incarnation u.consumer) u.consumer (reason_in set u.consumer) (Inbox u) refl
 killed_fine set incarnation (Running s) h = lost_fine (incarnation s) s (reason_in set s) (Running s) refl
 killed_fine set incarnation (Gathered s) h = lost_fine (incarnation s) s (reason_in set s) (Gathered s) refl
-killed_fine set incarnation (InBatch b) h = refl
-killed_fine set incarnation (Acked o) h = h
-killed_fine set incarnation (Lost l) h = refl
+killed_fine set incarnation p h = h
 
 -- where all pass, no message is failed
 pub none_failed : (topology : Topology) (before : History) (n : ℕ) → all_pass before ≡ true → is_acked_failed (place topology before n) ≡ false

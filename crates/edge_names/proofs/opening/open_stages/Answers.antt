@@ -35,7 +35,7 @@ open_stage-requires-clause-home g c κs within = λ some.
 
 ended : (g : Over) (c : In-Err g)
     → EndsBy (at_paces c.args.topology.now (g.S.Supply.feeds c.args.supply.now)) c.args.topology.now c.in-Err.unopened (seen_by g.E.Edges g.E.Source.ByteSource g.E.Sink.ByteSink c.args.edges.now)
-        (seen_by g.E.Edges g.E.Source.ByteSource g.E.Sink.ByteSink c.open_stage.new.edges) (body_at g.B.Works.look c.args.bodies.now.items) (body_at g.B.Works.look c.open_stage.new.bodies.items)
+    (seen_by g.E.Edges g.E.Source.ByteSource g.E.Sink.ByteSink c.open_stage.new.edges) (body_at g.B.Works.look c.args.bodies.now.items) (body_at g.B.Works.look c.open_stage.new.bodies.items)
 ended g c =
     let seen = seen_by g.E.Edges g.E.Source.ByteSource g.E.Sink.ByteSink in
     let topology = c.args.topology.now in
