@@ -20,6 +20,7 @@ use Rattle.pipe_model.specs.Lives.{KillSet, kill_set, reason_in}
 use Rattle.pipe_model.specs.Batches.{Batch, BatchPlace, AtBatcher, Sent, Dropped, Leg, LegPlace, InInbox, AtWork, Answered, LegLost, is_settled, settled_as, lost_leg, failed_leg, outcome_place, place_by_batch, on_legs, leg_taken, leg_answered, leg_lost, new_legs, batch_sent, batch_on_legs, batch_killed, dropped_in}
 use Rattle.pipe_model.specs.Flow.{alone, batch, view_of, among, sends_by, subs_of, place_in_batch, change_place, new_batch, next_units, closing}
 use Rattle.pipe_model.specs.Acknowledgements.{is_acked_failed}
+use Rattle.pipe_laws.proofs.Carried.{sent_clear}
 use Rattle.pipe_laws.proofs.Tests.{and_left, and_right, both}
 use Rattle.body_laws.specs.Passes.{passes, all_pass}
 
@@ -92,20 +93,7 @@ new_pass [] = refl
 new_pass (u ∷ subs) = new_pass subs
 
 sent_passes : (s : StageNo) (is_alone : Bool) (subs : List SubNo) (p : BatchPlace) → place_passes p ≡ true → place_passes (batch_sent s is_alone subs p) ≡ true
-sent_passes s is_alone [] (AtBatcher t) h = by_stage (is_alone && same_stage s t)
-  where
-    by_stage : (b : Bool) → place_passes (if b then Sent [] else AtBatcher t) ≡ true
-    by_stage true = refl
-    by_stage false = refl
-sent_passes s is_alone [] (Sent legs) h = h
-sent_passes s is_alone [] (Dropped l) h = refl
-sent_passes s is_alone (u ∷ subs) (AtBatcher t) h = by_stage (same_stage s t)
-  where
-    by_stage : (b : Bool) → place_passes (if b then Sent (new_legs (u ∷ subs)) else AtBatcher t) ≡ true
-    by_stage true = new_pass (u ∷ subs)
-    by_stage false = refl
-sent_passes s is_alone (u ∷ subs) (Sent legs) h = h
-sent_passes s is_alone (u ∷ subs) (Dropped l) h = refl
+sent_passes = sent_clear place_passes new_pass
 
 killed_passes : (set : KillSet) (incarnation : StageNo → ℕ) (p : BatchPlace) → place_passes p ≡ true → place_passes (batch_killed set incarnation p) ≡ true
 killed_passes set incarnation (AtBatcher s) h = by_reason (reason_in set s)

@@ -165,28 +165,23 @@ same_side live t c s p n is_next none = by (s == p) (c.0 == t.0) refl none
         let same : nat_le c.0 n ≡ nat_le c.0 (n + 1) = grind (arith, nat_tests) in
         ap (λ x. x && live c) same
 
+off : (b : Bool) → (b && false) ≡ false
+off true = refl
+off false = refl
+
 unjoined : (F L a b c d : Bool) → (L && (F && ((a && b) || (c && d)))) ≡ false → F ≡ true → ((a && (b && L)) ≡ false) × ((d && (c && L)) ≡ false)
 unjoined true true true true c d h e = absurd cc
 unjoined true true true false true true h e = absurd cc
 unjoined true true true false true false h e = (refl, refl)
-unjoined true true true false false d h e = (refl, by d)
-  where
-    by : (d : Bool) → (d && false) ≡ false
-    by true = refl
-    by false = refl
+unjoined true true true false false d h e = (refl, off d)
 unjoined true true false b true true h e = absurd cc
 unjoined true true false b true false h e = (refl, refl)
-unjoined true true false b false d h e = (refl, by d)
-  where
-    by : (d : Bool) → (d && false) ≡ false
-    by true = refl
-    by false = refl
+unjoined true true false b false d h e = (refl, off d)
 unjoined true false a b c d h e = (none a b, none d c)
   where
     none : (x y : Bool) → (x && (y && false)) ≡ false
-    none true true = refl
-    none true false = refl
-    none false y = refl
+    none x true = off x
+    none x false = off x
 unjoined false L a b c d h e = absurd cc
 
 pub unjoined_same : (topology : Topology) (live : StageNo → Bool) (s t c p : StageNo) (n : ℕ) → t.0 ≡ n + 1 → (live t && joins topology s t c p) ≡ false

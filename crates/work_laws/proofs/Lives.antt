@@ -30,7 +30,7 @@ use Rattle.count_laws.proofs.Steps.{controls_within, answered_out}
 use Rattle.work_laws.specs.Work.{how_many, is_reply, is_killing, is_restart}
 use Rattle.work_laws.specs.Limits.{most_kills, most_lives, most_restarts, most_late}
 use Rattle.work_laws.proofs.Keys.{stage_numbers, stage_among}
-use Rattle.work_laws.proofs.Spread.{Counted, spread, how_many_grows, how_many_more}
+use Rattle.work_laws.proofs.Spread.{Counted, at_most_one, spread, how_many_grows, how_many_more}
 use Rattle.work_laws.proofs.ByKind.{replies_all, stages_weigh, stage_slots, slot_among, slots_weigh}
 
 -- Kills
@@ -77,11 +77,7 @@ kills_within topology (step ∷ before) h = by_step step (legal_step topology be
     by_step _ l old = omega (arith, old)
 
 kills_few : (topology : Topology) (before : History) → IsSound topology → is_legal topology before ≡ true → kills before ≤ most_kills topology
-kills_few topology before sound h = omega (arith, kills_within topology before h, controls_within topology before h, replies_all topology before sound h, one (happened is_halt before))
-  where
-    one : (b : Bool) → as_number b ≤ 1
-    one true = omega arith
-    one false = omega arith
+kills_few topology before sound h = omega (arith, kills_within topology before h, controls_within topology before h, replies_all topology before sound h, at_most_one (happened is_halt before))
 
 killings_are : (before : History) → how_many is_killing before ≤ kills before
 killings_are [] = omega arith

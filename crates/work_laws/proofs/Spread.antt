@@ -10,6 +10,10 @@ use Rattle.pipe_laws.proofs.Lists.{weigh}
 use Rattle.work_laws.specs.Work.{how_many}
 use Rattle.work_laws.proofs.Keys.{Among, weigh_more, weigh_grows}
 
+pub at_most_one : (b : Bool) → as_number b ≤ 1
+at_most_one true = omega arith
+at_most_one false = omega arith
+
 -- the step counts for one of the keys
 pub record Counted {K : Type 0} (f : History → K → ℕ) (keys : List K) (before : History) (step : Step) : Type 0 where
   pub key : K
