@@ -228,12 +228,8 @@ same_fits b m k e h =
 
 same_passes : (b : ℕ) (r q : Reply) → same_reply r q ≡ true → PassesFit b q → PassesFit b r
 same_passes b (Passed m) (Passed k) e h = same_fits b m k e h
-same_passes b (Passed m) (Failed why) e h = cc
-same_passes b (Passed m) (Raised why) e h = cc
-same_passes b (Passed m) Crashed e h = cc
-same_passes b (Failed why) q e h = tt
-same_passes b (Raised why) q e h = tt
-same_passes b Crashed q e h = tt
+same_passes b (Passed m) _ e h = cc
+same_passes b _ q e h = tt
 
 same_all : (b : ℕ) (replies others : List Reply) → same_replies replies others ≡ true → AllFit b others → AllFit b replies
 same_all b [] others e h = tt
