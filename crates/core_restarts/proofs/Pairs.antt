@@ -3,6 +3,7 @@ use Rattle.std.proofs.Common.{◌≡◌, ℕ, ◌+◌, ◌<◌, ◌≤◌, List,
 use Rattle.std.specs.Prelude.{slice_get, if◌then◌else◌, ◌&&◌, ◌||◌, ◌==◌, not, nat_le, is_none, IsSome}
 use Rattle.std.proofs.lemmas.Bool.Decides.{nat_tests}
 use Rattle.std.proofs.lemmas.Bool.{false_from_ne_true, or_left, or_right}
+use Rattle.std.proofs.Math.Bool.{and-false}
 use Rattle.pipe_types.specs.declared.numbers.StageNo.{StageNo}
 use Rattle.pipe_types.specs.declared.topology.Topology.{Topology}
 use Rattle.pipe_types.specs.declared.topology.StageSpec.{StageSpec}
@@ -165,23 +166,19 @@ same_side live t c s p n is_next none = by (s == p) (c.0 == t.0) refl none
         let same : nat_le c.0 n ≡ nat_le c.0 (n + 1) = grind (arith, nat_tests) in
         ap (λ x. x && live c) same
 
-off : (b : Bool) → (b && false) ≡ false
-off true = refl
-off false = refl
-
 unjoined : (F L a b c d : Bool) → (L && (F && ((a && b) || (c && d)))) ≡ false → F ≡ true → ((a && (b && L)) ≡ false) × ((d && (c && L)) ≡ false)
 unjoined true true true true c d h e = absurd cc
 unjoined true true true false true true h e = absurd cc
 unjoined true true true false true false h e = (refl, refl)
-unjoined true true true false false d h e = (refl, off d)
+unjoined true true true false false d h e = (refl, and-false d)
 unjoined true true false b true true h e = absurd cc
 unjoined true true false b true false h e = (refl, refl)
-unjoined true true false b false d h e = (refl, off d)
+unjoined true true false b false d h e = (refl, and-false d)
 unjoined true false a b c d h e = (none a b, none d c)
   where
     none : (x y : Bool) → (x && (y && false)) ≡ false
-    none x true = off x
-    none x false = off x
+    none x true = and-false x
+    none x false = and-false x
 unjoined false L a b c d h e = absurd cc
 
 pub unjoined_same : (topology : Topology) (live : StageNo → Bool) (s t c p : StageNo) (n : ℕ) → t.0 ≡ n + 1 → (live t && joins topology s t c p) ≡ false

@@ -1,6 +1,7 @@
 -- What is counted over all stages is counted of the journal.
 use Rattle.std.proofs.Common.{◌≡◌, Bool, true, false, refl, ap, sym, ◌∙◌}
 use Rattle.std.specs.Prelude.{◌&&◌, not}
+use Rattle.std.proofs.Math.Bool.{and-false, and-true}
 use Rattle.pipe_types.specs.declared.numbers.StageNo.{StageNo}
 use Rattle.pipe_types.specs.declared.topology.Topology.{Topology}
 use Rattle.pipe_types.specs.Sound.{IsSound}
@@ -10,7 +11,6 @@ use Rattle.pipe_model.specs.Legal.{is_legal, happened, is_drain, is_halt, is_dry
 use Rattle.pipe_model.specs.Moves.{is_drained, jobs_out}
 use Rattle.pipe_model.specs.Standing.{all_clear, is_clear_above}
 use Rattle.queue_laws.proofs.Laws.{drained_law, dry_law}
-use Rattle.queue_laws.proofs.Waits.{and_none, and_same}
 use Rattle.core_tables.specs.declared.rows.Totals.{Totals}
 use Rattle.core_state.specs.declared.state.Core.{Core}
 use Rattle.core_state.specs.Stands.{Holds}
@@ -30,8 +30,8 @@ drained_if topology before sound legal draining bare is =
     ∙ sym (drained_law topology before sound legal ∙ ap (λ d. d && (not (jobs_out topology before) && all_clear topology before)) draining)
   where
     by : (j : Bool) → jobs_out topology before ≡ j → (bare && not j) ≡ (not j && all_clear topology before)
-    by true out = and_none bare
-    by false home = and_same bare ∙ is home
+    by true out = and-false bare
+    by false home = and-true bare ∙ is home
 
 -- where it drains and no fetch is out, a batcher is dry once nothing is left above it
 pub dry_by : (topology : Topology) (before : History) (b : StageNo) → IsSound topology → is_legal topology before ≡ true → has_role topology b is_batcher_role ≡ true

@@ -8,7 +8,7 @@ use Rattle.pipe_types.specs.declared.message.Place.TheVariants.{Inbox, Running, 
 use Rattle.pipe_types.specs.declared.message.Reply.{Reply}
 use Rattle.pipe_types.specs.Numbers.{same_stage, batch_no}
 use Rattle.pipe_model.specs.Content.{is_among_next}
-use Rattle.pipe_model.specs.Batches.{BatchPlace, AtBatcher, Sent, Leg, LegPlace, Answered, settled_as, failed_leg, new_legs, batch_sent}
+use Rattle.pipe_model.specs.Batches.{BatchPlace, AtBatcher, Sent, Leg, LegPlace, Answered, settled_as, failed_leg, on_legs, new_legs, batch_sent, batch_on_legs}
 use Rattle.pipe_model.specs.Flow.{among, taken, done, answered, reply_to, gathered, put_in_batch, accepted_to}
 
 pub mapped_clear : (bad : Option Place → Bool) (f : Place → Place) → ((p : Place) → bad (Some p) ≡ false → bad (Some (f p)) ≡ false) → (o : Option Place) → bad o ≡ false → bad (option_map f o) ≡ false
@@ -83,3 +83,8 @@ sent_clear good new s is_alone (u ∷ subs) (AtBatcher t) h = either (same_stage
     either false = h
 sent_clear good new s is_alone [] p h = h
 sent_clear good new s is_alone (u ∷ subs) p h = h
+
+-- a change of legs that keeps the test of them keeps it of the batch
+pub on_legs_clear : (good : BatchPlace → Bool) (change : SubNo → LegPlace → LegPlace) → ((legs : List Leg) → good (Sent legs) ≡ true → good (Sent (on_legs change legs)) ≡ true) → (p : BatchPlace) → good p ≡ true → good (batch_on_legs change p) ≡ true
+on_legs_clear good change keeps (Sent legs) h = keeps legs h
+on_legs_clear good change keeps p h = h

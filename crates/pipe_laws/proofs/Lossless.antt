@@ -30,7 +30,7 @@ use Rattle.pipe_model.specs.Moves.{is_final}
 use Rattle.pipe_model.specs.Acknowledgements.{is_lossless, loses, acknowledgements}
 use Rattle.pipe_model.specs.Claims.{AcknowledgesEverything, times_in_all}
 use Rattle.pipe_laws.proofs.Tests.{and_left, and_right, both, not_true}
-use Rattle.pipe_laws.proofs.Carried.{failed_as, mapped_clear, accepted_clear, taken_clear, done_clear, gathered_clear, joined_clear, sent_clear}
+use Rattle.pipe_laws.proofs.Carried.{failed_as, mapped_clear, accepted_clear, taken_clear, done_clear, gathered_clear, joined_clear, on_legs_clear, sent_clear}
 use Rattle.pipe_laws.proofs.Slots.{number_is}
 use Rattle.pipe_laws.proofs.Ends.{leaves_nothing}
 use Rattle.pipe_laws.proofs.Acknowledged.{acknowledged_once}
@@ -100,17 +100,9 @@ answered_keeps s outcomes u AtWork h = by_stage (same_stage s u.consumer)
 answered_keeps s outcomes u (Answered o) h = refl
 answered_keeps s outcomes u (LegLost l) h = h
 
-on_legs_keeps : (change : SubNo → LegPlace → LegPlace) → ((u : SubNo) (p : LegPlace) → not (is_leg_lost p) ≡ true → not (is_leg_lost (change u p)) ≡ true) → (p : BatchPlace) → place_kept p ≡ true → place_kept (batch_on_legs change p) ≡ true
-on_legs_keeps change keeps (AtBatcher s) h = refl
-on_legs_keeps change keeps (Sent legs) h = kept_on_legs change keeps legs h
-on_legs_keeps change keeps (Dropped l) h = h
-
 new_kept : (subs : List SubNo) → legs_kept (new_legs subs) ≡ true
 new_kept [] = refl
 new_kept (u ∷ subs) = new_kept subs
-
-sent_keeps : (s : StageNo) (is_alone : Bool) (subs : List SubNo) (p : BatchPlace) → place_kept p ≡ true → place_kept (batch_sent s is_alone subs p) ≡ true
-sent_keeps = sent_clear place_kept new_kept
 
 kept_mapped : (change : BatchPlace → BatchPlace) → ((p : BatchPlace) → place_kept p ≡ true → place_kept (change p) ≡ true) → (o : Option Batch) → batch_kept o ≡ true → batch_kept (option_map (λ x. change_place x (change x.place)) o) ≡ true
 kept_mapped change keeps None h = refl
@@ -128,15 +120,15 @@ batches_kept topology (Close s first trigger ∷ before) b h =
     either numbers true old = refl
     either numbers false old = old
 batches_kept topology (Dispatch s ∷ before) b h =
-    kept_mapped (batch_sent s (among (alone topology before s) b) (subs_of (sends_by topology before (view_of topology before) s) b)) (sent_keeps s _ _) (batch topology before b) (batches_kept topology before b (lossless_before topology before (Dispatch s) h))
+    kept_mapped (batch_sent s (among (alone topology before s) b) (subs_of (sends_by topology before (view_of topology before) s) b)) (sent_clear place_kept new_kept s _ _) (batch topology before b) (batches_kept topology before b (lossless_before topology before (Dispatch s) h))
 batches_kept topology (Take s u k ∷ before) b h =
     either (among (next_units topology (view_of topology before) s u k) b) (batch topology before b) (batches_kept topology before b (lossless_before topology before (Take s u k) h))
   where
     either : (t : Bool) (o : Option Batch) → batch_kept o ≡ true → batch_kept (if t then option_map (λ x. change_place x (batch_on_legs (leg_taken s) x.place)) o else o) ≡ true
-    either true o h = kept_mapped (batch_on_legs (leg_taken s)) (on_legs_keeps (leg_taken s) (taken_keeps s)) o h
+    either true o h = kept_mapped (batch_on_legs (leg_taken s)) (on_legs_clear place_kept (leg_taken s) (kept_on_legs (leg_taken s) (taken_keeps s))) o h
     either false o h = h
 batches_kept topology (Wrote s bytes (Outcomes outcomes) ∷ before) b h =
-    kept_mapped (batch_on_legs (leg_answered s outcomes)) (on_legs_keeps (leg_answered s outcomes) (answered_keeps s outcomes)) (batch topology before b) (batches_kept topology before b (lossless_before topology before (Wrote s bytes (Outcomes outcomes)) h))
+    kept_mapped (batch_on_legs (leg_answered s outcomes)) (on_legs_clear place_kept (leg_answered s outcomes) (kept_on_legs (leg_answered s outcomes) (answered_keeps s outcomes))) (batch topology before b) (batches_kept topology before b (lossless_before topology before (Wrote s bytes (Outcomes outcomes)) h))
 batches_kept topology (step ∷ before) b h = batches_kept topology before b (lossless_before topology before step h)
 
 -- Places
