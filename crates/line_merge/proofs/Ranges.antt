@@ -11,8 +11,8 @@ use Rattle.line_merge.specs.Tries.{Gives, HasNone, HasWaited, TakenHasCause, IsT
 use Rattle.line_merge.specs.declared.stream.Stream.{Stream}
 use Rattle.line_merge.specs.declared.item.MergeItem.{MergeItem}
 use Rattle.line_merge.specs.declared.item.MergeItem.TheVariants as item
-use Rattle.line_merge.specs.declared.item.Taken.{Taken}
-use Rattle.line_merge.specs.declared.item.Taken.TheVariants.{Line, NotYet, Ended}
+use Rattle.line_merge.specs.Taken.{Taken}
+use Rattle.line_merge.specs.Taken.{Line, NotYet, Ended}
 use Rattle.line_merge.proofs.Pairs.{both_then, there_then, there_both, both_same}
 use Rattle.line_merge.proofs.Taking.{gives_none}
 

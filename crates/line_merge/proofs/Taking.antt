@@ -18,12 +18,12 @@ use Rattle.pipe_edges.specs.declared.reading.Fetched.TheVariants as fetched
 use Rattle.source_lines.proofs.Fetches.{Fetches, reads_on}
 use Rattle.source_lines.specs.Seen.{line_seen}
 use Rattle.source_lines.specs.Read.{ReadsOn}
-use Rattle.line_merge.specs.Items.{line_of, fetched_by, leaves_open, IsSingle}
+use Rattle.line_merge.specs.Items.{line_of, fetched_by, leaves_open}
 use Rattle.line_merge.specs.Streams.{lines_of, is_open_in}
 use Rattle.line_merge.specs.Tries.{Gives, TakenHasCause}
 use Rattle.line_merge.specs.declared.stream.Stream.{Stream}
-use Rattle.line_merge.specs.declared.item.Taken.{Taken}
-use Rattle.line_merge.specs.declared.item.Taken.TheVariants.{Line, NotYet, Ended}
+use Rattle.line_merge.specs.Taken.{Taken, IsSingle, taken_by}
+use Rattle.line_merge.specs.Taken.{Line, NotYet, Ended}
 
 known_again : (P : LineEnd → Type 0) (now : Option LineEnd) (e : LineEnd) → now ≡ Some e → IfSome now P → P e
 known_again P now e is fact = rw is at fact

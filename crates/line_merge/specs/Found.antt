@@ -1,12 +1,14 @@
 -- What was found, as the item that it becomes.
+use Rattle.std.specs.Prelude.{ℕ}
+use Rattle.pipe_edges.specs.declared.reading.Fetched.{Fetched}
+use Rattle.pipe_edges.specs.declared.reading.Fetched.TheVariants as fetched
+use Rattle.line_merge.specs.Taken.{only}
 use Rattle.line_merge.specs.declared.item.MergeItem.{MergeItem}
 use Rattle.line_merge.specs.declared.item.MergeItem.TheVariants.{Line, NotYet, End, Fault, TooLong}
-use Rattle.line_merge.specs.declared.found.FoundKind.{FoundKind}
-use Rattle.line_merge.specs.declared.found.FoundKind.TheVariants as found
 
-abbrev pub item_by : FoundKind → MergeItem
-item_by (found.Line place line) = Line place line
-item_by found.NotYet = NotYet
-item_by found.End = End
-item_by (found.Fault place) = Fault place
-item_by (found.TooLong place) = TooLong place
+abbrev pub item_by : (place : ℕ) → Fetched → MergeItem
+item_by place (fetched.Records records) = Line place (only records)
+item_by place fetched.NotYet = NotYet
+item_by place fetched.End = End
+item_by place fetched.Fault = Fault place
+item_by place fetched.TooLong = TooLong place

@@ -9,8 +9,8 @@ use Rattle.line_merge.specs.declared.item.MergeItem.{MergeItem}
 use Rattle.line_merge.specs.declared.item.MergeItem.TheVariants.{Line, NotYet, End, Fault, TooLong}
 use Rattle.line_merge.specs.declared.item.MergeEnd.{MergeEnd}
 use Rattle.line_merge.specs.declared.item.MergeEnd.TheVariants as merge_end
-use Rattle.line_merge.specs.declared.item.Taken.{Taken}
-use Rattle.line_merge.specs.declared.item.Taken.TheVariants as taken
+use Rattle.line_merge.specs.Taken.{Taken}
+use Rattle.line_merge.specs.Taken as taken
 
 -- the answer that names an end
 abbrev pub item_of : MergeEnd → MergeItem
@@ -41,11 +41,6 @@ item_in place taken.NotYet = None
 item_in place (taken.Ended end.End) = None
 item_in place (taken.Ended end.Fault) = Some (Fault place)
 item_in place (taken.Ended end.TooLong) = Some (TooLong place)
-
--- the records are one line
-abbrev pub IsSingle : Fetched → Type 0
-IsSingle (fetched.Records records) = length records ≡ 1
-IsSingle _ = Unit {0}
 
 -- the fetch of one line that a try is
 abbrev pub fetched_by : Taken → Fetched

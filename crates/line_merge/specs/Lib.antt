@@ -4,5 +4,5 @@ pub mod Tries
 pub mod Opening
 pub mod Seen
 pub mod Fetch
-pub mod Lone
+pub mod Taken
 pub mod Found

@@ -12,8 +12,8 @@ use Rattle.source_lines.specs.Read.{ReadsOn}
 use Rattle.line_merge.specs.Streams.{Both, There, lines_of, is_open_in}
 use Rattle.line_merge.specs.declared.item.MergeItem.{MergeItem}
 use Rattle.line_merge.specs.declared.item.MergeItem.TheVariants as item
-use Rattle.line_merge.specs.declared.item.Taken.{Taken}
-use Rattle.line_merge.specs.declared.item.Taken.TheVariants as taken
+use Rattle.line_merge.specs.Taken.{Taken}
+use Rattle.line_merge.specs.Taken as taken
 
 -- these lines of the source follow those that were read before, its waits do not fall, and no pace comes to it
 pub record Gives {B : Type 0} (source : SourceOf B) (lines : List (List ℕ)) (old new : Stream B) : Type 0 where

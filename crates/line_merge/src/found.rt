@@ -1,121 +1,123 @@
-//! What a round over the sources found.
+//! What a try of one source came to, and what a round over all found.
 
 ghost use Rattle.std.specs.Prelude.{◌≡◌, ◌∷◌, ◌<◌, ◌++◌, [], length, vec_len, vec_capacity};
-ghost use Rattle.line_merge.specs.{Items.{end_by, given_of, places_in, answer_by}, Found.{item_by}};
+ghost use Rattle.line_merge.specs.{Items.{answer_by, end_by, fetched_by, given_of, item_in, leaves_open, places_in}, Taken.{IsSingle}, Found.{item_by}};
 
 use crate::item::{MergeEnd, MergeItem};
 use pipe_edges::Fetched;
 use pipe_types::bytes::{Bytes, BytesList};
 use std::marker::Model;
 
-// A line in the list in which it came, which contracts see as the line.
+// The fetch of one line that a try is, which contracts see as what it came to.
 #[derive(Drop)]
-pub struct LoneLine {
-    records: BytesList,
+pub struct Tried {
+    fetched: Fetched,
 }
 
-impl Model for LoneLine {
-    ghost use Rattle.std.specs.Prelude.{◌≡◌, List, ℕ, length};
-    ghost use Rattle.line_merge.specs.Lone.{only};
+impl Model for Tried {
+    ghost use Rattle.line_merge.specs.Taken.{IsSingle, Taken, taken_by};
 
-    ghost Value = { List ℕ };
+    ghost Value = { Taken };
 
-    ghost view = { λ l. only l.records };
+    ghost view = { λ t. taken_by t.fetched };
 
-    ghost invariant = { λ l. length l.records ≡ 1 };
+    ghost invariant = { λ t. IsSingle t.fetched };
 }
 
-impl LoneLine {
-    pub fn of_list(records: BytesList) -> LoneLine
-        requires { length records ≡ 1 }
-        ensures { records ≡ result ∷ [] }
+impl Tried {
+    pub fn new(fetched: Fetched) -> Tried
+        requires { IsSingle fetched }
+        ensures { fetched ≡ fetched_by result }
     {
-        LoneLine { records }
+        Tried { fetched }
     }
 
-    pub fn into_list(self) -> BytesList
-        ensures { result ≡ self ∷ [] }
+    // Whether its source is open after it.
+    pub fn leaves_open(&self) -> bool
+        ensures { result ≡ leaves_open self.now }
     {
-        self.records
+        !matches!(self.fetched, Fetched::End)
     }
 
-    pub fn into_line(self) -> Bytes
-        ensures { result ≡ self }
+    // What the merge gives for it, if it does not go on to the next source.
+    pub fn item_at(self, place: u16) -> Option<Found>
+        ensures { result ≡ item_in place self }
     {
-        let mut lines = self.records.into_vec();
-        match lines.pop() {
-            Some(line) => line,
-            None => unreachable!(),
+        let fetched = self.fetched;
+        if matches!(fetched, Fetched::NotYet | Fetched::End) {
+            None
+        } else {
+            Some(Found { place, fetched })
         }
     }
 }
 
-// As `MergeItem`, with the line in its list.
-#[derive(Drop)]
-pub enum FoundKind {
-    Line(u16, LoneLine),
-    NotYet,
-    End,
-    Fault(u16),
-    TooLong(u16),
-}
-
-// What was found, which contracts see as the item that it becomes.
+// What was found, as the fetch of the source of a place, which contracts see as the item that it becomes.
 #[derive(Drop)]
 pub struct Found {
-    kind: FoundKind,
+    place: u16,
+    fetched: Fetched,
 }
 
 impl Model for Found {
-    ghost use Rattle.line_merge.specs.Found.{item_by};
+    ghost use Rattle.line_merge.specs.{Found.{item_by}, Taken.{IsSingle}};
     ghost use Rattle.line_merge.specs.declared.item.MergeItem.{MergeItem};
 
     ghost Value = { MergeItem };
 
-    ghost view = { λ f. item_by f.kind };
+    ghost view = { λ f. item_by f.place f.fetched };
+
+    ghost invariant = { λ f. IsSingle f.fetched };
+}
+
+fn only_line(records: BytesList) -> Bytes
+    requires { length records ≡ 1 }
+    ensures { records ≡ result ∷ [] }
+{
+    let mut lines = records.into_vec();
+    match lines.pop() {
+        Some(line) => line,
+        None => unreachable!(),
+    }
 }
 
 impl Found {
-    pub fn new(kind: FoundKind) -> Found
-        ensures { result ≡ item_by kind }
+    pub fn new(place: u16, fetched: Fetched) -> Found
+        requires { IsSingle fetched }
+        ensures { result ≡ item_by place fetched }
     {
-        Found { kind }
+        Found { place, fetched }
     }
 
     pub fn into_item(self) -> MergeItem
         ensures { result ≡ self }
     {
-        match self.kind {
-            FoundKind::Line(place, line) => MergeItem::Line(place, line.into_line()),
-            FoundKind::NotYet => MergeItem::NotYet,
-            FoundKind::End => MergeItem::End,
-            FoundKind::Fault(place) => MergeItem::Fault(place),
-            FoundKind::TooLong(place) => MergeItem::TooLong(place),
+        let Found { place, fetched } = self;
+        match fetched {
+            Fetched::Records(records) => MergeItem::Line(place, only_line(records)),
+            Fetched::NotYet => MergeItem::NotYet,
+            Fetched::End => MergeItem::End,
+            Fetched::Fault => MergeItem::Fault(place),
+            Fetched::TooLong => MergeItem::TooLong(place),
         }
     }
 
-    // The answer of a fetch, with the line in the list in which it came.
+    // The answer of a fetch: the line is in the list in which it came.
     pub fn into_fetched(self) -> Fetched
         ensures { result ≡ answer_by self }
     {
-        match self.kind {
-            FoundKind::Line(_, line) => Fetched::Records(line.into_list()),
-            FoundKind::NotYet => Fetched::NotYet,
-            FoundKind::End => Fetched::End,
-            FoundKind::Fault(_) => Fetched::Fault,
-            FoundKind::TooLong(_) => Fetched::TooLong,
-        }
+        self.fetched
     }
 
     // The end that is known from then on.
     pub fn end(&self) -> Option<MergeEnd>
         ensures { result ≡ end_by self.now }
     {
-        match &self.kind {
-            FoundKind::Line(_, _) | FoundKind::NotYet => None,
-            FoundKind::End => Some(MergeEnd::End),
-            FoundKind::Fault(place) => Some(MergeEnd::Fault(*place)),
-            FoundKind::TooLong(place) => Some(MergeEnd::TooLong(*place)),
+        match &self.fetched {
+            Fetched::Records(_) | Fetched::NotYet => None,
+            Fetched::End => Some(MergeEnd::End),
+            Fetched::Fault => Some(MergeEnd::Fault(self.place)),
+            Fetched::TooLong => Some(MergeEnd::TooLong(self.place)),
         }
     }
 
@@ -124,8 +126,8 @@ impl Found {
         requires { vec_len order.old < vec_capacity order.old }
         ensures { order.new.items ≡ order.old.items ++ places_in (given_of self.now) }
     {
-        if let FoundKind::Line(place, _) = &self.kind {
-            order.push_reserved(*place);
+        if let Fetched::Records(_) = &self.fetched {
+            order.push_reserved(self.place);
         }
     }
 }

@@ -2,11 +2,10 @@
 
 ghost use Rattle.std.specs.Prelude.{◌≡◌, true, false, Some, IfOk, IfErr};
 ghost use Rattle.pipe_edges.specs.{LineSource.{line_source, line_end_of}, declared.reading.LineEnd.TheVariants.{End}};
-ghost use Rattle.line_merge.specs.Items.{line_in, fetched_by, IsSingle};
+ghost use Rattle.line_merge.specs.Items.{line_in};
 
-use crate::found::LoneLine;
-use crate::item::Taken;
-use pipe_edges::{ByteSource, Fetched, LineEnd, LineSource};
+use crate::found::Tried;
+use pipe_edges::{ByteSource, Fetched, LineSource};
 use std::alloc::{AllocError, Global};
 
 // A source with its lines, and whether it has not answered its end yet.
@@ -15,20 +14,6 @@ pub struct Stream<B> {
     lines: LineSource<B>,
     is_open: bool,
     ghost closed_at_end: { is_open ≡ false → line_end_of lines ≡ Some End },
-}
-
-// A fetch of one line.
-fn taken_of(fetched: Fetched) -> Taken
-    requires { IsSingle fetched }
-    ensures { fetched ≡ fetched_by result }
-{
-    match fetched {
-        Fetched::Records(records) => Taken::Line(LoneLine::of_list(records)),
-        Fetched::NotYet => Taken::NotYet,
-        Fetched::End => Taken::Ended(LineEnd::End),
-        Fetched::Fault => Taken::Ended(LineEnd::Fault),
-        Fetched::TooLong => Taken::Ended(LineEnd::TooLong),
-    }
 }
 
 impl<B: ByteSource> Stream<B> {
@@ -65,30 +50,30 @@ impl<B: ByteSource> Stream<B> {
     }
 
     // Reads the next line of an open source. Its end closes it.
-    fn take_line(&mut self) -> Result<Taken, AllocError>
+    fn take_line(&mut self) -> Result<Tried, AllocError>
         requires { is_open_in self.old ≡ true }
         ensures gives { Gives B.ByteSource (line_in result) self.old self.new }
         ensures cause { IfOk result (TakenHasCause B.ByteSource self.old self.new) }
     {
         match self.lines.fetch(1) {
             Ok(fetched) => {
-                let taken = taken_of(fetched);
-                self.is_open = taken.leaves_open();
-                Ok(taken)
+                let tried = Tried::new(fetched);
+                self.is_open = tried.leaves_open();
+                Ok(tried)
             }
             Err(e) => Err(e),
         }
     }
 
     // Reads the next line, if the source is open. A closed one is not read.
-    pub fn try_line(&mut self) -> Result<Taken, AllocError>
+    pub fn try_line(&mut self) -> Result<Tried, AllocError>
         ensures gives { Gives B.ByteSource (line_in result) self.old self.new }
         ensures cause { IfOk result (TakenHasCause B.ByteSource self.old self.new) }
     {
         if self.is_open {
             self.take_line()
         } else {
-            Ok(Taken::Ended(LineEnd::End))
+            Ok(Tried::new(Fetched::End))
         }
     }
 }

@@ -4,13 +4,12 @@ ghost use Rattle.std.specs.Prelude.{◌≡◌, ◌≤◌, ◌<◌, ℕ, true, fa
 ghost use Rattle.line_merge.specs.{Items.{line_in, lines_from, given_in, given_by}, Streams.{Both, There}, Tries.{Gives, TakenHasCause, RangeHasCause, RoundHasCause}};
 ghost use Rattle.line_merge.specs.Opening.{SomeIsOpen, NoneIsOpen, IsWithout, RestHasCause};
 
-use crate::found::{Found, FoundKind};
-use crate::item::Taken;
+use crate::found::{Found, Tried};
 use crate::stream::Stream;
-use pipe_edges::ByteSource;
+use pipe_edges::{ByteSource, Fetched};
 use std::alloc::AllocError;
 
-fn try_at<B: ByteSource>(streams: &mut Vec<Stream<B>>, at: usize) -> Result<Taken, AllocError>
+fn try_at<B: ByteSource>(streams: &mut Vec<Stream<B>>, at: usize) -> Result<Tried, AllocError>
     requires { at < length streams.old.items }
     ensures len { length streams.new.items ≡ length streams.old.items }
     ensures others { (k : ℕ) → ¬ (k ≡ at) → slice_get streams.new.items k ≡ slice_get streams.old.items k }
@@ -36,8 +35,8 @@ fn try_range<B: ByteSource>(
 {
     for at in from..to {
         match try_at(streams, at) {
-            Ok(taken) => {
-                if let Some(item) = taken.item_at(at as u16) {
+            Ok(tried) => {
+                if let Some(item) = tried.item_at(at as u16) {
                     return Ok(Some(item));
                 }
             }
@@ -64,9 +63,9 @@ fn without_line<B: ByteSource>(streams: &[Stream<B>]) -> Found
     ensures { IsWithout (slice_get streams.now) result }
 {
     if is_any_open(streams) {
-        Found::new(FoundKind::NotYet)
+        Found::new(0, Fetched::NotYet)
     } else {
-        Found::new(FoundKind::End)
+        Found::new(0, Fetched::End)
     }
 }
 
