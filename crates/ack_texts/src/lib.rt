@@ -12,3 +12,4 @@ mod lines;
 mod words;
 
 pub use acks::ack_text;
+pub use lines::put_line;

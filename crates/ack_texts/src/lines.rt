@@ -20,9 +20,9 @@ fn find_ack(acks: &[Ack], producer: StageNo) -> Option<&Ack>
     acks.iter().find(|ack| ack.producer.0 == producer.0)
 }
 
-/// Writes the line of an acknowledgement.
+/// Writes the line of an acknowledgement to the producer with this name at the end of the text.
 #[tactic(auto, using(std::proofs::lemmas::List::append_assoc))]
-fn put_line(
+pub fn put_line(
     out: &mut Vec<u8>,
     name: &[u8],
     successful: &[MsgNo],

@@ -33,7 +33,7 @@ fn copy_control(alloc: Global, control: &Option<Text>) -> Result<Option<Text>, A
 }
 
 /// A copy of the topology.
-pub(crate) fn copy_topology(alloc: Global, topology: &Topology) -> Result<Topology, AllocError>
+pub fn copy_topology(alloc: Global, topology: &Topology) -> Result<Topology, AllocError>
     ensures { IfOk result (λ copied. copied ≡ topology.now) }
 {
     Ok(Topology {

@@ -16,6 +16,7 @@ mod progress;
 mod step;
 mod steps;
 
+pub use copies::copy_topology;
 pub use fault::{JournalFault, JournalRefusal};
 pub use lines::{Cut, first_line, is_header};
 pub use plain_run::PlainRun;

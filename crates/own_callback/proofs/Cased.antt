@@ -1,5 +1,5 @@
 -- The case of the call, and what was used in it.
-use Rattle.std.proofs.Common.{◌≡◌, ◌∙◌, ◌≤◌, ◌++◌, refl, sym, ap, subst, ℕ, List, [], ◌∷◌, codes, length, take, Bool, true, false, Option, Some, None, IfSome, Result, Ok, Err, arith}
+use Rattle.std.proofs.Common.{◌≡◌, ◌∙◌, ◌≤◌, ◌++◌, refl, sym, ap, subst, inl, ℕ, List, [], ◌∷◌, codes, length, take, Bool, true, false, Option, Some, None, IfSome, Result, Ok, Err, arith}
 use Rattle.std.specs.Prelude.{IsTrue, is_none}
 use Rattle.std.proofs.lemmas.List.{length-map}
 use Rattle.pipe_types.specs.declared.numbers.StageNo.{StageNo}
@@ -31,7 +31,7 @@ use Rattle.pipe_config.specs.File.{topology_of_file}
 use Rattle.pipe_top.specs.Boxes.{AreBoxesLeft}
 use Rattle.pipe_top.specs.Outside.{IsFedRead, IsOutside}
 use Rattle.pipe_top.specs.Cases.{Case, Filed, Runs, InCase, IsNamedFile, calls_of, case_of, feeds_of, file_name, for_topology, run_case, unless_short}
-use Rattle.pipe_top.specs.Runs.{OutsideSeen, IsCall, IsEndOf, IsOutsideOf}
+use Rattle.pipe_top.specs.Runs.{OutsideSeen, IsCall, IsEndOf, IsOutsideOf, SaysUnfed}
 use Rattle.own_callback.specs.Came.{run_words, case_of_file}
 use Rattle.own_callback.proofs.Commanded.{run_command, run_words_run}
 
@@ -60,7 +60,7 @@ got d (Some t) = t
 got d None = d
 
 abbrev shown_run : Topology → Case
-shown_run topology = Runs (record { steps = true; acks = true }) Filed topology
+shown_run topology = Runs (record { steps = true; acks = true }) None Filed topology
 
 module _ (before : History) (status : ℕ) (calls : List (EdgeKind × List ℕ)) (old new : OutsideSeen) where
   whole : (topology : Topology) (b : Bool) → (b ≡ false → status ≡ 9) → status ≤ 4 → IsOutside (feeds_of Filed topology) b topology before old.edges new.edges → AreBoxesLeft b topology before old.boxes new.boxes
@@ -69,27 +69,27 @@ module _ (before : History) (status : ℕ) (calls : List (EdgeKind × List ℕ))
   whole topology false wanting low outside boxes = let nine : status ≡ 9 = wanting refl in absurd (omega (arith, low, nine))
 
   in_run : (wanted : Topology) (topology : Option Topology) → status ≤ 4 → IsEndOf topology before status (shown_run wanted)
-      → IsOutsideOf (status ≡ 9) calls topology before (shown_run wanted) old new → IfSome topology (λ t. IsUsedWhole t before old new)
+      → IsOutsideOf (status ≡ 9) (SaysUnfed status) calls topology before (shown_run wanted) old new → IfSome topology (λ t. IsUsedWhole t before old new)
   unfolding got
   in_run wanted None low end outside = tt
   in_run wanted (Some t) low end outside =
       subst (λ (z : Topology). IsUsedWhole z before old new) (ap (got wanted) (sym end.0)) (whole wanted outside.whole outside.wanting low outside.outside outside.boxes)
 
   in_short : (short : Option Shortage) (wanted : Topology) (topology : Option Topology) → status ≤ 4
-      → IsEndOf topology before status (unless_short short (shown_run wanted)) → IsOutsideOf (status ≡ 9) calls topology before (unless_short short (shown_run wanted)) old new
+      → IsEndOf topology before status (unless_short short (shown_run wanted)) → IsOutsideOf (status ≡ 9) (SaysUnfed status) calls topology before (unless_short short (shown_run wanted)) old new
       → IfSome topology (λ t. IsUsedWhole t before old new)
   in_short None wanted topology low end outside = in_run wanted topology low end outside
   in_short (Some short) wanted topology low end outside = absurd end
 
   in_file : (boxes : Boxes) (read : Result Topology ConfigFault) (topology : Option Topology) → status ≤ 4
-      → IsEndOf topology before status (for_topology read (run_case boxes (record { steps = true; acks = true }) Filed)) → IsOutsideOf (status ≡ 9) calls topology before (for_topology read (run_case boxes (record { steps = true; acks = true }) Filed)) old new
+      → IsEndOf topology before status (for_topology read (run_case boxes (record { steps = true; acks = true }) None Filed)) → IsOutsideOf (status ≡ 9) (SaysUnfed status) calls topology before (for_topology read (run_case boxes (record { steps = true; acks = true }) None Filed)) old new
       → IfSome topology (λ t. IsUsedWhole t before old new)
   in_file boxes (Ok wanted) topology low end outside = in_short (shortage_of wanted boxes) wanted topology low end outside
   in_file boxes (Err fault) topology low end outside = absurd end
 
   -- under 0 to 4 a run was whole
   used : (kinds : List Kind) (file : List ℕ) (topology : Option Topology) → status ≤ 4
-      → IsEndOf topology before status (case_of_file kinds file) → IsOutsideOf (status ≡ 9) calls topology before (case_of_file kinds file) old new
+      → IsEndOf topology before status (case_of_file kinds file) → IsOutsideOf (status ≡ 9) (SaysUnfed status) calls topology before (case_of_file kinds file) old new
       → IfSome topology (λ t. IsUsedWhole t before old new)
   used kinds file topology low end outside =
       in_file (boxes_in kinds) (topology_of_file (take 1048577 file)) topology low end outside
@@ -101,7 +101,7 @@ pub whole_run : (named : EdgeKind → List ℕ → List ℕ) (words : List (List
     → named File (codes "t") ≡ file → status ≤ 4 → IfSome topology (λ t. IsUsedWhole t before old new)
 whole_run named words workers kinds file old new out out' err err' topology before status e least most call f low =
     let came = cased named words workers kinds file (IsCall old new out out' err err' (command_of words) topology before status) e least most call f in
-    used before status (calls_of (command_of words) (case_of_file kinds file)) old new kinds file topology low (came.ended low) came.outside
+    used before status (calls_of (command_of words) (case_of_file kinds file)) old new kinds file topology low (came.ended (inl low)) came.outside
 
 there : {A : Type 0} (o : Option A) (P : A → Type 0) (Q : Type 0) → There o P → ((x : A) → P x → Q) → Q
 there (Some x) P Q t f = f x t

@@ -1,5 +1,5 @@
 -- The command that the words of a call are.
-use Rattle.std.proofs.Common.{◌≡◌, ◌≤◌, ◌<◌, ◌⊎◌, inl, inr, ℕ, zero, suc, refl, subst, codes, true, Some, arith}
+use Rattle.std.proofs.Common.{◌≡◌, ◌≤◌, ◌<◌, ◌⊎◌, inl, inr, ℕ, zero, suc, refl, subst, codes, true, None, Some, arith}
 use Rattle.std.proofs.lemmas.Bool.{cases_lt}
 use Rattle.clap.specs.Faults.{walk_fault, defaults_fault}
 use Rattle.clap.specs.Walk.{walked}
@@ -9,7 +9,7 @@ use Rattle.own_callback.specs.Came.{run_words}
 
 -- the run of the topology under `t` on so many workers, with both texts shown
 abbrev pub run_command : (workers : ℕ) → Command
-run_command workers = Run (codes "t") workers true true
+run_command workers = Run (codes "t") workers true true None
 
 -- the words for so many workers are that command
 abbrev IsRunOf : ℕ → Type 0

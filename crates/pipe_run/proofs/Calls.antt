@@ -3,11 +3,10 @@ use Rattle.std.proofs.Common.{◌≡◌, ℕ, suc, ◌+◌, ◌∷◌, ◌++◌,
 use Rattle.std.specs.Prelude.{◌⊎◌, IsTrue, Option, Some, None}
 use Rattle.std.proofs.lemmas.List.{append-nil, append_assoc}
 use Rattle.std.proofs.lemmas.List.Elements.{All-nil}
-use Rattle.pipe_types.specs.declared.topology.StageSpec.{StageSpec}
 use Rattle.pipe_types.specs.declared.topology.Topology.{Topology}
 use Rattle.pipe_model.specs.History.{History}
 use Rattle.pipe_edges.specs.declared.edges.EdgeKind.{EdgeKind}
-use Rattle.pipe_edges.specs.declared.edges.EdgeKind.TheVariants.{Source}
+use Rattle.pipe_edges.specs.declared.edges.EdgeKind.TheVariants.{Source, Sink}
 use Rattle.stage_bodies.specs.Seen.{SourceSeen, SinkSeen, LineSeen, BodySeen}
 use Rattle.edge_names.specs.Supplies.{Feeds}
 use Rattle.edge_names.specs.Seen.{EdgesSeen}
@@ -86,8 +85,8 @@ unopened_stage feeds topology name start old new handed u = record {
 regroup : {A : Type 0} (a b c x : List A) → a ++ (b ++ (c ++ x)) ≡ (a ++ (b ++ c)) ++ x
 regroup a b c x = ap (λ y. a ++ y) (sym (append_assoc b c x)) ∙ sym (append_assoc a (b ++ c) x)
 
-pub failed_by : (feeds : Feeds) (topology : Topology) (name : List ℕ) (start : ℕ → Option BodySeen) (old new : EdgesSeen) → AreHandedOut topology start → IsUndone feeds topology name start old new → HasFailed feeds topology name old new
-failed_by feeds topology name start old new handed (inl failed) =
+failed_by_stages : (feeds : Feeds) (topology : Topology) (name : List ℕ) (start : ℕ → Option BodySeen) (old new : EdgesSeen) → AreHandedOut topology start → IsUndone feeds topology name start old new → HasFailed feeds topology None name old new
+failed_by_stages feeds topology name start old new handed (inl failed) =
     let only = only_call topology.control failed.front failed.behind (failed.kind, name) failed.parts in
     record {
       kind = failed.kind;
@@ -102,7 +101,7 @@ failed_by feeds topology name start old new handed (inl failed) =
       fault = failed.fault;
       back = inl (unopened_control feeds topology name old new failed);
     }
-failed_by feeds topology name start old new handed (inr u) =
+failed_by_stages feeds topology name start old new handed (inr u) =
     let first = one (control_call topology.control) in
     let before = calls_of feeds (take u.at topology.stages) in
     let after = calls_of feeds (drop (u.at + 1) topology.stages) in
@@ -126,8 +125,8 @@ failed_by feeds topology name start old new handed (inr u) =
     }
 
 -- memory was wanting before anything was asked
-pub unasked : (feeds : Feeds) (topology : Topology) (edges : EdgesSeen) → HasWanted feeds topology edges edges
-unasked feeds topology edges = record {
+nothing_asked : (feeds : Feeds) (topology : Topology) (edges : EdgesSeen) → HasWanted feeds topology None edges edges
+nothing_asked feeds topology edges = record {
   front = [];
   rest = run_calls feeds topology;
   calls = refl;
@@ -143,8 +142,8 @@ unasked feeds topology edges = record {
 }
 
 -- memory was wanting in opening
-pub wanted : (feeds : Feeds) (topology : Topology) (start : ℕ → Option BodySeen) (old new : EdgesSeen) → AreHandedOut topology start → IsCutShort feeds topology start old new → HasWanted feeds topology old new
-wanted feeds topology start old new handed cut = record {
+wanted_in_stages : (feeds : Feeds) (topology : Topology) (start : ℕ → Option BodySeen) (old new : EdgesSeen) → AreHandedOut topology start → IsCutShort feeds topology start old new → HasWanted feeds topology None old new
+wanted_in_stages feeds topology start old new handed cut = record {
   front = cut.front;
   rest = cut.rest;
   calls = cut.calls;
@@ -155,6 +154,41 @@ wanted feeds topology start old new handed cut = record {
     by_part : IsControlCut feeds topology cut.rest old new ⊎ IsStageCut feeds topology start cut.rest old new → IsOpenedInPart feeds topology cut.rest old new
     by_part (inl control) = inl control
     by_part (inr stage) = inr (start, handed, stage)
+
+-- ---- before the call of the live sink
+
+failed_before : (live : Option (List ℕ)) (feeds : Feeds) (topology : Topology) (name : List ℕ) (old new : EdgesSeen) → HasFailed feeds topology None name old new → HasFailed feeds topology live name old new
+failed_before None feeds topology name old new f = f
+failed_before (Some n) feeds topology name old new f = record {
+  kind = f.kind;
+  front = f.front;
+  rest = f.rest ++ (Sink, n) ∷ [];
+  calls = ap (λ (calls : List (EdgeKind × List ℕ)). calls ++ (Sink, n) ∷ []) f.calls ∙ append_assoc f.front ((f.kind, name) ∷ f.rest) ((Sink, n) ∷ []);
+  asks = f.asks;
+  fault = f.fault;
+  back = inl (f.rest, refl, f.back);
+}
+
+wanted_before : (live : Option (List ℕ)) (feeds : Feeds) (topology : Topology) (old new : EdgesSeen) → HasWanted feeds topology None old new → HasWanted feeds topology live old new
+wanted_before None feeds topology old new w = w
+wanted_before (Some n) feeds topology old new w = record {
+  front = w.front;
+  rest = w.rest ++ (Sink, n) ∷ [];
+  calls = ap (λ (calls : List (EdgeKind × List ℕ)). calls ++ (Sink, n) ∷ []) w.calls ∙ append_assoc w.front w.rest ((Sink, n) ∷ []);
+  asks = w.asks;
+  back = inl (w.rest, refl, w.back);
+}
+
+pub failed_by : (live : Option (List ℕ)) (feeds : Feeds) (topology : Topology) (name : List ℕ) (start : ℕ → Option BodySeen) (old new : EdgesSeen) → AreHandedOut topology start → IsUndone feeds topology name start old new → HasFailed feeds topology live name old new
+failed_by live feeds topology name start old new handed undone = failed_before live feeds topology name old new (failed_by_stages feeds topology name start old new handed undone)
+
+pub unasked : (live : Option (List ℕ)) (feeds : Feeds) (topology : Topology) (edges : EdgesSeen) → HasWanted feeds topology live edges edges
+unasked live feeds topology edges = wanted_before live feeds topology edges edges (nothing_asked feeds topology edges)
+
+pub wanted : (live : Option (List ℕ)) (feeds : Feeds) (topology : Topology) (start : ℕ → Option BodySeen) (old new : EdgesSeen) → AreHandedOut topology start → IsCutShort feeds topology start old new → HasWanted feeds topology live old new
+wanted live feeds topology start old new handed cut = wanted_before live feeds topology old new (wanted_in_stages feeds topology start old new handed cut)
+
+-- ---- all calls
 
 -- what was opened was asked for, and nothing more
 pub asked_all : (calls : List (EdgeKind × List ℕ)) (sources : List (List ℕ × SourceSeen)) (sinks : List (List ℕ × SinkSeen)) (old mid new : EdgesSeen) → Asks calls old mid → GivesOff sources sinks mid new → AreAsked calls old new

@@ -8,6 +8,8 @@ mod Callbacks
 mod Stocks
 mod Calls
 mod Runs
-mod Wholes
+mod LiveSinks
 mod Rates
+mod Wholes
+mod Unlive
 mod Ungated

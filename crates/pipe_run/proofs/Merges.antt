@@ -1,6 +1,6 @@
 -- From what the sources of a merge were read to, to what the journal says of the sources that were opened.
-use Rattle.std.proofs.Common.{◌≡◌, ◌<◌, ◌+◌, ℕ, zero, suc, List, [], ◌∷◌, ◌++◌, length, Bool, true, false, refl, ap, sym, ◌∙◌, subst, arith, Option, Some, None}
-use Rattle.std.specs.Prelude.{IsTrue, IsSome, IfSome, IsSomeAnd, ◌⊎◌, All, map, slice_get, option_map}
+use Rattle.std.proofs.Common.{◌≡◌, ◌<◌, ◌+◌, ℕ, suc, List, [], ◌∷◌, ◌++◌, length, true, false, refl, ap, sym, ◌∙◌, subst, arith, Option, Some, None}
+use Rattle.std.specs.Prelude.{IsTrue, IfSome, IsSomeAnd, ◌⊎◌, All, map, slice_get, option_map}
 use Rattle.std.specs.List.{sum_by}
 use Rattle.std.proofs.lemmas.List.{append_assoc, append-nil}
 use Rattle.std.proofs.lemmas.List.Elements.{All-nil, All-cons, All-head, All-tail}
@@ -27,7 +27,7 @@ use Rattle.stage_job.specs.Chunks.{RoseBy}
 use Rattle.stage_bodies.specs.Reads.{AreReadFrom, AreMergedFrom}
 use Rattle.stage_bodies.specs.Seen.{SourceSeen, LineSeen, MergeSeen, Merged, sources_in, waits_together}
 use Rattle.stage_bodies.specs.Jobs.{Both}
-use Rattle.body_laws.specs.Keeps.{IsKnownEnd, KeepsMerge}
+use Rattle.body_laws.specs.Keeps.{KeepsMerge}
 use Rattle.edge_names.specs.Seen.{EdgesSeen}
 use Rattle.edge_names.specs.Named.{GivesSource}
 use Rattle.edge_names.specs.Opened.{GivesMerge}

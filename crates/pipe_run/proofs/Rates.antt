@@ -1,5 +1,5 @@
 -- Where each source keeps its pace, the run keeps the rate.
-use Rattle.std.proofs.Common.{◌≡◌, ◌≤◌, ℕ, Bool, true, false, length, refl, ap, sym, ◌∙◌, subst, Option, Some, None}
+use Rattle.std.proofs.Common.{◌≡◌, ◌≤◌, ℕ, Bool, true, false, length, refl, ap, ◌∙◌, Option, Some, None}
 use Rattle.std.specs.Prelude.{IfSome, IsSome, option_map}
 use Rattle.pipe_types.specs.Numbers.{post}
 use Rattle.pipe_types.specs.Sound.{IsSound, is_producer, producers}
@@ -20,7 +20,7 @@ use Rattle.stage_bodies.specs.Posts.{place_at}
 use Rattle.body_laws.specs.Ready.{There}
 use Rattle.edge_names.specs.Seen.{EdgesSeen}
 use Rattle.edge_names.specs.Gates.{pace_by, pace_of_stage}
-use Rattle.edge_names.specs.Supplies.{Feed, Fed, FeedsProducers, Supplied, at_paces, fed, supplied, supplied_by}
+use Rattle.edge_names.specs.Supplies.{Feed, Fed, FeedsProducers, at_paces, fed, supplied_by}
 use Rattle.edge_names.specs.Opened.{supplied_in}
 use Rattle.edge_names.specs.Returned.{feed_in}
 use Rattle.edge_names.proofs.Gating.{some_producer}

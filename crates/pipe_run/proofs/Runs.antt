@@ -1,6 +1,6 @@
 -- What a run and the giving back come to.
 use Rattle.std.proofs.Common.{◌≡◌, ℕ, suc, List, ◌++◌, take, length, Bool, true, false, not, arith, refl, sym, ◌∙◌, subst, inl, inr, Option, Some, None, Result, Ok, Err}
-use Rattle.std.specs.Prelude.{IsTrue, IsSome, IsSomeAnd, ◌&&◌, is_ok}
+use Rattle.std.specs.Prelude.{◌⊎◌, IsTrue, IsSome, IsSomeAnd, ◌&&◌, is_ok}
 use Rattle.std.specs.declared.alloc.AllocError.{AllocError}
 use Rattle.std.proofs.lemmas.List.{append-nil, take_all}
 use Rattle.pipe_types.specs.declared.topology.StageSpec.{StageSpec}
@@ -12,7 +12,8 @@ use Rattle.stage_bodies.specs.Seen.{SourceSeen, LineSeen, BodySeen}
 use Rattle.run_pipe.specs.Keeping.{KeepsControlOn, KeepsControlPartly}
 use Rattle.run_pipe.proofs.Kept.{kept_partly}
 use Rattle.run_pipe.specs.Clocks.{ClockSeen, KeepsClockOn, KeepsClockPartly}
-use Rattle.run_pipe.specs.Ends.{HasEnded}
+use Rattle.run_pipe.specs.Ends.{HasEnded, HasMemory}
+use Rattle.run_pipe.specs.Watches.{HasSeen}
 use Rattle.run_pipe.specs.declared.ends.RunEnd.{RunEnd}
 use Rattle.run_pipe.specs.declared.ends.RunEnd.TheVariants.{Drained, Halted}
 use Rattle.run_pipe.specs.Seen.{PipeState}
@@ -22,7 +23,7 @@ use Rattle.edge_names.specs.Seen.{EdgesSeen}
 use Rattle.edge_names.specs.Controls.{IsBackFirst, IsGivenInPart, first_sources, first_sinks, named_control}
 use Rattle.edge_names.specs.Returned.{AreCalm, GivesOff, KeepsCallbacks, sources_of, sinks_of}
 use Rattle.pipe_run.specs.Steps.{WentOn}
-use Rattle.pipe_run.specs.Whole.{HasCome}
+use Rattle.pipe_run.specs.Whole.{HasCome, IsTimeOf}
 
 has_come : (topology : Topology) (before : History) (end : RunEnd) → HasEnded topology before end → HasCome topology before
 has_come topology before Drained h = inl h
@@ -49,7 +50,7 @@ partly_obeyed : {E : Type 0} (r : Result RunEnd E) (topology : Topology) (before
 partly_obeyed (Ok end) topology before opened now k = kept_partly topology before opened now k
 partly_obeyed (Err e) topology before opened now k = k
 
-all_back : (feeds : Feeds) (topology : Topology) (control : Option LineSeen) (bodies : ℕ → Option BodySeen) (old new : EdgesSeen)
+pub all_back : (feeds : Feeds) (topology : Topology) (control : Option LineSeen) (bodies : ℕ → Option BodySeen) (old new : EdgesSeen)
     → GivesOff (named_control topology.control control ++ sources_of feeds topology.stages bodies) (sinks_of feeds topology.stages bodies) old new
     → GivesOff (first_sources feeds (suc (length topology.stages)) 0 topology control bodies) (first_sinks feeds (suc (length topology.stages)) topology bodies) old new
 all_back feeds topology control bodies old new h =
@@ -81,6 +82,17 @@ pub ran_to : (o opened p final : PipeState) (end : Result RunEnd AllocError) →
 ran_to o opened p final end first last is ran =
     subst (λ (e : Option (Result RunEnd AllocError)). IsSomeAnd e (HasRun opened final)) is
     (subst (λ (z : PipeState × PipeState). IsSomeAnd z.1.end (HasRun z.0 z.1)) (λ i. (first i, last i)) ran)
+
+-- ---- the watch
+
+memory_in : (o : Option (Result RunEnd AllocError)) (r : Result RunEnd AllocError) → o ≡ Some r → IsTrue (is_ok r) → HasMemory o
+memory_in o (Ok end) e whole = subst HasMemory (sym e) tt
+memory_in o (Err error) e whole = not_whole whole
+
+-- what the watch of a pipe has seen it has seen of its run
+pub seen_in : (fits : Topology → Type 0) (stood : History → Type 0) (failed : Bool) (o : Option (Result RunEnd AllocError)) (r whole : Result RunEnd AllocError) (topology same : Topology) (steps : History) → o ≡ Some r
+    → (IsTrue (is_ok whole) → IsTrue (is_ok r)) → topology ≡ same → HasSeen fits stood failed (HasMemory o) topology steps → HasSeen fits stood failed (IsTrue (is_ok whole)) same steps
+seen_in fits stood failed o r whole topology same steps is ends e h = record { fit = subst fits e h.fit; part = h.part; all = λ sound w. h.all sound (memory_in o r is (ends w)) }
 
 -- ---- the whole
 
@@ -167,3 +179,37 @@ pub went_in_part_at : (origin : StageSpec → Option Feed) (r : Result RunEnd Al
 went_in_part_at origin r opened p topology final old new h same given first kept =
     subst (λ (t : Topology). WentOn (at_paces t origin) false opened.topology p.steps opened.home final opened.control old new opened.clock p.clock) (same ∙ h.topology)
     (went_in_part (at_paces topology origin) r opened p topology final old new h same given first kept)
+
+-- ---- where less is said
+
+time_partly : (whole : Bool) (before : History) (opened clock : ClockSeen) → IsTimeOf whole before opened clock → IsTimeOf false before opened clock
+time_partly true before opened clock k = record { latest = omega (arith, k.latest); readings = k.readings; pauses = k.pauses }
+time_partly false before opened clock k = k
+
+in_part : (feeds : Feeds) (whole : Bool) (topology : Topology) (before : History) (opened final : ℕ → Option BodySeen) (fresh : Option LineSeen) (old new : EdgesSeen) (clock clock' : ClockSeen)
+    → WentOn feeds whole topology before opened final fresh old new clock clock' → WentOn feeds false topology before opened final fresh old new clock clock'
+in_part feeds whole topology before opened final fresh old new clock clock' w = record {
+  follows = w.follows;
+  ended = λ t. not_whole t;
+  idle = λ t. not_whole t;
+  time = time_partly whole before clock clock' w.time;
+  control = w.control;
+  obeyed = w.obeyed;
+  bodies = w.bodies;
+  keeps = w.keeps;
+  none_out = λ t. not_whole t;
+  stay = w.stay;
+  parts = w.parts;
+  more = w.more;
+  all = λ t. not_whole t;
+  back = w.back;
+  first = w.first;
+  calm = λ t. not_whole t;
+  kept = w.kept;
+}
+
+pub went_to : (feeds : Feeds) (whole now : Bool) (topology : Topology) (before : History) (opened final : ℕ → Option BodySeen) (fresh : Option LineSeen) (old new : EdgesSeen) (clock clock' : ClockSeen) → (now ≡ whole) ⊎ (now ≡ false)
+    → WentOn feeds whole topology before opened final fresh old new clock clock' → WentOn feeds now topology before opened final fresh old new clock clock'
+went_to feeds whole now topology before opened final fresh old new clock clock' (inl same) w = subst (λ (b : Bool). WentOn feeds b topology before opened final fresh old new clock clock') (sym same) w
+went_to feeds whole now topology before opened final fresh old new clock clock' (inr less) w =
+    subst (λ (b : Bool). WentOn feeds b topology before opened final fresh old new clock clock') (sym less) (in_part feeds whole topology before opened final fresh old new clock clock' w)

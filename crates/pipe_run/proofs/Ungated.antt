@@ -1,5 +1,5 @@
 -- Where no source is a merge beside a rate, no merge has a pace.
-use Rattle.std.proofs.Common.{◌≡◌, ℕ, List, Bool, true, false, length, refl, ap, sym, ◌∙◌, subst, Option, Some, None}
+use Rattle.std.proofs.Common.{◌≡◌, ℕ, List, true, false, length, refl, ap, sym, ◌∙◌, subst, Option, Some, None}
 use Rattle.std.specs.Prelude.{IsSome}
 use Rattle.pipe_types.specs.Sound.{producers}
 use Rattle.pipe_types.specs.declared.topology.Rate.{Rate}

@@ -1,3 +1,4 @@
+pub mod Live
 pub mod Outside
 pub mod Records
 pub mod Boxes
@@ -5,3 +6,4 @@ pub mod Whole
 pub mod Steps
 pub use Rattle.run_pipe.specs.Clocks
 pub use Rattle.run_pipe.specs.Idle
+pub use Rattle.run_pipe.specs.Watches

@@ -1,5 +1,5 @@
 -- What a run read of its sources, and wrote to its sinks.
-use Rattle.std.specs.Prelude.{◌≡◌, ◌≤◌, ◌<◌, ◌⊎◌, ◌+◌, ◌++◌, ◌∷◌, ℕ, suc, drop, Bool, List, length, map, slice_get, All, IsTrue, IfSome, IsSomeAnd, Option, Some, None, option_map}
+use Rattle.std.specs.Prelude.{◌≡◌, ◌≤◌, ◌<◌, ◌⊎◌, ◌+◌, ◌++◌, ◌∷◌, [], ℕ, suc, drop, Bool, List, length, map, slice_get, All, IsTrue, IfSome, IsSomeAnd, Option, Some, None, option_map}
 use Rattle.std.specs.List.{sum_by}
 use Rattle.pipe_types.specs.Counts.{Rose}
 use Rattle.pipe_types.specs.declared.numbers.StageNo.{StageNo}
@@ -11,6 +11,7 @@ use Rattle.pipe_types.specs.Stages.{spec_of}
 use Rattle.pipe_model.specs.History.{History}
 use Rattle.pipe_model.specs.Outside.{fed, source_end, sink_text}
 use Rattle.pipe_edges.specs.declared.edges.EdgeKind.{EdgeKind}
+use Rattle.pipe_edges.specs.declared.edges.EdgeKind.TheVariants.{Sink}
 use Rattle.source_lines.specs.Cut.{AreFirstLines, AreAllLines, AreLinesBeforeLong}
 use Rattle.pipe_laws.specs.Read.{quiets}
 use Rattle.stage_job.specs.Chunks.{RoseBy}
@@ -31,6 +32,7 @@ use Rattle.edge_names.specs.Opened.{AreOpened, AreUnread, HasSource, supplied_in
 use Rattle.edge_names.specs.Returned.{feed_in, sink_in, sources_of, sinks_of}
 use Rattle.edge_names.specs.Controls.{IsBackFirst, IsControlCut, IsStageCut, control_call, named_control, first_sources, first_sinks}
 use Rattle.box_stock.specs.Lends.{AreHandedOut}
+use Rattle.pipe_run.specs.Live.{IsLiveBack, IsLiveSink}
 
 -- the records are the first lines of what the source gave and has left: all of them, none too long, where it ended; all
 -- before the first that is too long, where it ended so. A fault and each quiet has its cause in the source, whose
@@ -199,6 +201,67 @@ abbrev pub IsOpenedInPart : Feeds → Topology → (rest : List (EdgeKind × Lis
 IsOpenedInPart feeds topology rest old new =
     IsControlCut feeds topology rest old new
     ⊎ ((start : ℕ → Option BodySeen) × AreHandedOut topology start × IsStageCut feeds topology start rest old new)
+
+-- all that the topology names was opened, and went back unread and unwritten, the control source first
+pub record IsAllUnused (feeds : Feeds) (topology : Topology) (old new : EdgesSeen) : Type 0 where
+  pub control : Option LineSeen
+  pub unread : HasSource old (control_call topology.control) None control
+  pub start : ℕ → Option BodySeen
+  pub handed : AreHandedOut topology start
+  pub bodies : ℕ → Option BodySeen
+  pub opened : AreOpened feeds topology (length topology.stages) old start bodies
+  pub inner : List (List ℕ × SourceSeen)
+  pub ungated : AreInner (named_control topology.control control ++ sources_of feeds topology.stages bodies) inner
+  pub sources : new.sources_back ≡ old.sources_back ++ inner
+  pub sinks : new.sinks_back ≡ old.sinks_back ++ sinks_of feeds topology.stages bodies
+
+-- memory was wanting for the live sink, with these calls still to come, or for giving back after its call had failed: all that the topology
+-- names was opened, of which the first parts went back unread and unwritten, and so many of the sources of the next part; and then
+-- the live sink
+pub record IsAllOpenedInPart (feeds : Feeds) (topology : Topology) (live : List ℕ) (rest : List (EdgeKind × List ℕ)) (old new : EdgesSeen) : Type 0 where
+  pub made : List (EdgeKind × List ℕ)
+  pub to_come : (Sink, live) ∷ [] ≡ made ++ rest
+  pub control : Option LineSeen
+  pub unread : HasSource old (control_call topology.control) None control
+  pub start : ℕ → Option BodySeen
+  pub handed : AreHandedOut topology start
+  pub bodies : ℕ → Option BodySeen
+  pub opened : AreOpened feeds topology (length topology.stages) old start bodies
+  pub parts : ℕ
+  pub more : ℕ
+  pub inner : List (List ℕ × SourceSeen)
+  pub ungated : AreInner (first_sources feeds parts more topology control bodies) inner
+  pub back : List (List ℕ × SinkSeen)
+  pub unwritten : IsLiveBack old live rest back
+  pub sources : new.sources_back ≡ old.sources_back ++ inner
+  pub sinks : new.sinks_back ≡ old.sinks_back ++ (first_sinks feeds parts topology bodies ++ back)
+
+-- ---- with a live sink, where it is named
+
+-- all that the topology names was read, written and given back, and behind it the live sink was fed and given back
+pub record IsFedOutside (feeds : Feeds) (whole : Bool) (topology : Topology) (before : History) (live text : List ℕ) (failed : Bool) (old new : EdgesSeen) : Type 0 where
+  pub middle : EdgesSeen
+  pub outside : IsOutside feeds whole topology before old middle
+  pub sink : IsLiveSink old live text whole failed middle new
+
+abbrev pub IsOutsideWith : (feeds : Feeds) → (whole : Bool) → Topology → (before : History) → (live : Option (List ℕ)) → (text : List ℕ) → (failed : Bool) → (old new : EdgesSeen) → Type 0
+IsOutsideWith feeds whole topology before (Some name) text failed old new = IsFedOutside feeds whole topology before name text failed old new
+IsOutsideWith feeds whole topology before None text failed old new = IsOutside feeds whole topology before old new
+
+-- a call that opens failed by this name, with these calls still to come, and what was opened before it was given back; that of the live
+-- sink is the last
+abbrev pub IsUnopenedWith : Feeds → Topology → (live : Option (List ℕ)) → (name : List ℕ) → (rest : List (EdgeKind × List ℕ)) → (old new : EdgesSeen) → Type 0
+IsUnopenedWith feeds topology (Some live) name rest old new =
+    ((earlier : List (EdgeKind × List ℕ)) × (rest ≡ earlier ++ (Sink, live) ∷ []) × IsUnopened feeds topology name earlier old new)
+    ⊎ ((name ≡ live) × (rest ≡ []) × IsAllUnused feeds topology old new)
+IsUnopenedWith feeds topology None name rest old new = IsUnopened feeds topology name rest old new
+
+-- memory was wanting before all was opened, with these calls still to come
+abbrev pub IsOpenedInPartWith : Feeds → Topology → (live : Option (List ℕ)) → (rest : List (EdgeKind × List ℕ)) → (old new : EdgesSeen) → Type 0
+IsOpenedInPartWith feeds topology (Some live) rest old new =
+    ((earlier : List (EdgeKind × List ℕ)) × (rest ≡ earlier ++ (Sink, live) ∷ []) × IsOpenedInPart feeds topology earlier old new)
+    ⊎ IsAllOpenedInPart feeds topology live rest old new
+IsOpenedInPartWith feeds topology None rest old new = IsOpenedInPart feeds topology rest old new
 
 -- these calls by name were made, of edges that tell as before
 pub record AreAsked (calls : List (EdgeKind × List ℕ)) (old new : EdgesSeen) : Type 0 where

@@ -13,7 +13,8 @@ use Rattle.run_pipe.specs.Idle.{HasIdleRows}
 use Rattle.edge_names.specs.Supplies.{Feeds}
 use Rattle.edge_names.specs.Seen.{EdgesSeen}
 use Rattle.edge_names.specs.Controls.{run_calls}
-use Rattle.pipe_run.specs.Outside.{AreAsked, IsOpenedInPart, IsOutside, IsUnopened}
+use Rattle.pipe_run.specs.Live.{with_live}
+use Rattle.pipe_run.specs.Outside.{AreAsked, IsOpenedInPartWith, IsOutsideWith, IsUnopenedWith}
 use Rattle.pipe_run.specs.declared.run.NoRun.{NoRun}
 use Rattle.pipe_run.specs.declared.run.NoRun.TheVariants.{Unopened, OutOfMemory}
 
@@ -31,33 +32,35 @@ IsTimeOf true before old new = KeepsClock before old new
 IsTimeOf false before old new = KeepsClockPartly before old new
 
 -- a run to its end, or until memory was wanting: each step of its own accord was the next move, none comes from a control
--- source where none is named, its rows of quiet answers keep to the idle limit, and its time is the clock's
-pub record IsRunOf (feeds : Feeds) (whole : Bool) (topology : Topology) (before : History) (old new : EdgesSeen) (clock clock' : ClockSeen) : Type 0 where
+-- source where none is named, its rows of quiet answers keep to the idle limit, and its time is the clock's; its live sink, where
+-- one is named, is to get this text, and it alone may have failed
+pub record IsRunOf (feeds : Feeds) (whole : Bool) (topology : Topology) (before : History) (live : Option (List ℕ)) (text : List ℕ) (failed : Bool) (old new : EdgesSeen) (clock clock' : ClockSeen) : Type 0 where
   pub follows : FollowsMoves topology before
   pub control : topology.control ≡ None → HasNoControl before
   pub ended : IsTrue whole → HasCome topology before
   pub idle : IsTrue whole → IsIdleWithin topology before
-  pub outside : IsOutside feeds whole topology before old new
+  pub outside : IsOutsideWith feeds whole topology before live text failed old new
+  pub none_failed : live ≡ None → failed ≡ false
   pub time : IsTimeOf whole before clock clock'
-  pub asks : AreAsked (run_calls feeds topology) old new
+  pub asks : AreAsked (with_live live (run_calls feeds topology)) old new
 
 -- a call by this name failed: it was the last, and what was opened before it was given back
-pub record HasFailed (feeds : Feeds) (topology : Topology) (name : List ℕ) (old new : EdgesSeen) : Type 0 where
+pub record HasFailed (feeds : Feeds) (topology : Topology) (live : Option (List ℕ)) (name : List ℕ) (old new : EdgesSeen) : Type 0 where
   pub kind : EdgeKind
   pub front : List (EdgeKind × List ℕ)
   pub rest : List (EdgeKind × List ℕ)
-  pub calls : run_calls feeds topology ≡ front ++ (kind, name) ∷ rest
+  pub calls : with_live live (run_calls feeds topology) ≡ front ++ (kind, name) ∷ rest
   pub asks : AreAsked (front ++ (kind, name) ∷ []) old new
   pub fault : Rose old.faults new.faults
-  pub back : IsUnopened feeds topology name rest old new
+  pub back : IsUnopenedWith feeds topology live name rest old new
 
 -- memory was wanting before the run began: so many of the calls were made, and what they opened was given back
-pub record HasWanted (feeds : Feeds) (topology : Topology) (old new : EdgesSeen) : Type 0 where
+pub record HasWanted (feeds : Feeds) (topology : Topology) (live : Option (List ℕ)) (old new : EdgesSeen) : Type 0 where
   pub front : List (EdgeKind × List ℕ)
   pub rest : List (EdgeKind × List ℕ)
-  pub calls : run_calls feeds topology ≡ front ++ rest
+  pub calls : with_live live (run_calls feeds topology) ≡ front ++ rest
   pub asks : AreAsked front old new
-  pub back : IsOpenedInPart feeds topology rest old new
+  pub back : IsOpenedInPartWith feeds topology live rest old new
 
 abbrev pub IfUnopened : NoRun → (List ℕ → Type 0) → Type 0
 IfUnopened (Unopened name) P = P name

@@ -11,8 +11,10 @@ ghost use Rattle.pipe_edges.specs.{Paces.{unpaced}, Texts.{IsLine, ended}};
 ghost use Rattle.stage_bodies.specs.Seen.{SourceSeen};
 ghost use Rattle.pipe_run.specs.{Outside.{IsMadeRead}, Records.{ReadsRecords}};
 
+mod live;
 mod run;
 
+pub use live::Live;
 pub use run::{Ended, NoRun, Run, run_topology};
 
 /// A run reads the records, in their order, of a source that was made of records.

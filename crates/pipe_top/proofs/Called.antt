@@ -1,5 +1,5 @@
 -- What a call comes to after a call by name that gave nothing back.
-use Rattle.std.proofs.Common.{◌≡◌, ℕ, suc, ◌≤◌, List, [], ◌∷◌, ◌++◌, take, Bool, true, false, Option, Some, None, Result, Ok, Err, ◌∙◌, ap, inl, inr, arith}
+use Rattle.std.proofs.Common.{◌≡◌, ℕ, suc, ◌≤◌, List, [], ◌∷◌, ◌++◌, take, Bool, Option, Some, None, Result, Ok, Err, ◌∙◌, ap, inl, inr, arith}
 use Rattle.std.specs.Prelude.{◌⊎◌, All, IsTrue, length, slice_get, option_map}
 use Rattle.std.proofs.lemmas.List.{append_assoc}
 use Rattle.std.proofs.lemmas.List.Elements.{All-cons}
@@ -22,16 +22,18 @@ use Rattle.edge_names.specs.Opened.{AreUnread, GivesFed, GivesFeed, GivesMerge, 
 use Rattle.edge_names.specs.Supplies.{Feeds, Feed, Opened, Merged, Made, Supplied, Fed, Written, stage_calls}
 use Rattle.edge_names.specs.Controls.{IsBackFirst, IsFailedInPart, IsStageCut, control_call, first_sinks, named_control}
 use Rattle.edge_names.specs.Returned.{feed_in, sink_in, sinks_of}
-use Rattle.pipe_run.specs.Outside.{IsFedRead, IsFeedRead, IsMergeRead, IsSourceRead, IsSinkWritten, AreUsed, IsControlUsed, HasControl, IsOpenedInPart, IsOutside, IsStageUnopened, IsUnopened}
+use Rattle.pipe_run.specs.Outside.{IsFedRead, IsFeedRead, IsMergeRead, IsSourceRead, IsSinkWritten, AreUsed, IsAllOpenedInPart, IsAllUnused, IsControlUsed, HasControl, IsOpenedInPart, IsOpenedInPartWith, IsOutside, IsOutsideWith, IsStageUnopened, IsUnopened, IsUnopenedWith}
+use Rattle.pipe_run.specs.Live.{IsLiveBack, IsLiveSink}
+use Rattle.journal_texts.specs.Acks.{ack_text}
 use Rattle.pipe_top.specs.Cases.{feeds_of, Case, NoCommand, NoTopology as BadTopology, TooFew, Checks, Upgrades, Audits, Rejects, Runs}
 use Rattle.pipe_top.specs.Runs.{OutsideSeen, IsUntouched, IsJournalBack, IsAuditedIn, IsNothingBack, IsBrokenOff, IsGivenUp, HasRunOrNot, IsOutsideOf, FailsAt}
 use Rattle.pipe_top.specs.Audits.{IsAuditOf, MayBeBack}
 use Rattle.run_verdicts.specs.Judged.{Summary}
 use Rattle.run_verdicts.specs.declared.audits.AuditFault.{AuditFault}
-use Rattle.pipe_top.specs.Flows.{IsEarly, Outcome, AskedBy, ComesBy}
+use Rattle.pipe_top.specs.Flows.{IsEarly, Outcome, AskedBy, ComesBy, ShowsUnfed}
 use Rattle.run_verdicts.specs.declared.verdict.Refusal.TheVariants.{Usage, Topology as NoTopology, Stock, Edge, Audit, Memory}
 use Rattle.run_verdicts.specs.declared.verdict.Verdict.{Verdict}
-use Rattle.run_verdicts.specs.declared.verdict.Verdict.TheVariants.{Refused, Done}
+use Rattle.run_verdicts.specs.declared.verdict.Verdict.TheVariants.{Refused, Done, Unfed}
 
 -- ---- what is given by name
 
@@ -294,17 +296,38 @@ unopened_as feeds topology name rest call old middle new c (inl x) = inl (record
 })
 unopened_as feeds topology name rest call old middle new c (inr x) = inr (stage_unopened_as feeds topology name rest call old middle new c x)
 
-given_back_as : (feeds : Feeds) (is_file : Type 0) (topology : Topology) (name : List ℕ) (rest : List (EdgeKind × List ℕ)) (call : EdgeKind × List ℕ) (old middle new : EdgesSeen) → Called old middle call
-    → (is_file × IsNothingBack middle new) ⊎ IsUnopened feeds topology name rest middle new → (is_file × IsNothingBack old new) ⊎ IsUnopened feeds topology name rest old new
-given_back_as feeds is_file topology name rest call old middle new c (inl x) = inl (x.0, (x.1.0 ∙ c.same_sources, x.1.1 ∙ c.same_sinks))
-given_back_as feeds is_file topology name rest call old middle new c (inr x) = inr (unopened_as feeds topology name rest call old middle new c x)
+all_unused_as : (feeds : Feeds) (topology : Topology) (call : EdgeKind × List ℕ) (old middle new : EdgesSeen) → Called old middle call → IsAllUnused feeds topology middle new → IsAllUnused feeds topology old new
+all_unused_as feeds topology call old middle new c x = record {
+  control = x.control;
+  unread = has_source old middle (control_call topology.control) None x.control c.names x.unread;
+  start = x.start;
+  handed = x.handed;
+  bodies = x.bodies;
+  opened = are_opened feeds topology (length topology.stages) old middle x.start x.bodies c.names x.opened;
+  inner = x.inner;
+  ungated = x.ungated;
+  sources = x.sources ∙ ap (λ l. l ++ x.inner) c.same_sources;
+  sinks = x.sinks ∙ ap (λ l. l ++ sinks_of feeds topology.stages x.bodies) c.same_sinks;
+}
 
-given_up_as : (feeds : Feeds) (topology : Topology) (call : EdgeKind × List ℕ) (calls : List (EdgeKind × List ℕ)) (old middle new : EdgesSeen) → Called old middle call → IsGivenUp feeds calls topology middle new → IsGivenUp feeds (call ∷ calls) topology old new
+unopened_with_as : (feeds : Feeds) (topology : Topology) (live : Option (List ℕ)) (name : List ℕ) (rest : List (EdgeKind × List ℕ)) (call : EdgeKind × List ℕ) (old middle new : EdgesSeen) → Called old middle call
+    → IsUnopenedWith feeds topology live name rest middle new → IsUnopenedWith feeds topology live name rest old new
+unopened_with_as feeds topology None name rest call old middle new c x = unopened_as feeds topology name rest call old middle new c x
+unopened_with_as feeds topology (Some live) name rest call old middle new c (inl x) = inl (x.0, x.1, unopened_as feeds topology name x.0 call old middle new c x.2)
+unopened_with_as feeds topology (Some live) name rest call old middle new c (inr x) = inr (x.0, x.1, all_unused_as feeds topology call old middle new c x.2)
+
+given_back_as : (feeds : Feeds) (live : Option (List ℕ)) (is_file : Type 0) (topology : Topology) (name : List ℕ) (rest : List (EdgeKind × List ℕ)) (call : EdgeKind × List ℕ) (old middle new : EdgesSeen) → Called old middle call
+    → (is_file × IsNothingBack middle new) ⊎ IsUnopenedWith feeds topology live name rest middle new → (is_file × IsNothingBack old new) ⊎ IsUnopenedWith feeds topology live name rest old new
+given_back_as feeds live is_file topology name rest call old middle new c (inl x) = inl (x.0, (x.1.0 ∙ c.same_sources, x.1.1 ∙ c.same_sinks))
+given_back_as feeds live is_file topology name rest call old middle new c (inr x) = inr (unopened_with_as feeds topology live name rest call old middle new c x)
+
+given_up_as : (feeds : Feeds) (live : Option (List ℕ)) (topology : Topology) (call : EdgeKind × List ℕ) (calls : List (EdgeKind × List ℕ)) (old middle new : EdgesSeen) → Called old middle call
+    → IsGivenUp feeds live calls topology middle new → IsGivenUp feeds live (call ∷ calls) topology old new
 unfolding fails_as
-given_up_as feeds topology call calls old middle new c x = record {
+given_up_as feeds live topology call calls old middle new c x = record {
   name = x.name;
   fails = fails_as old.told middle.told call calls old.asked middle.asked new.asked old.faults middle.faults new.faults x.name c.names.same_telling c.faults_stay c.one_call x.fails;
-  back = given_back_as feeds (x.fails.kind ≡ File) topology x.name x.fails.rest call old middle new c x.back;
+  back = given_back_as feeds live (x.fails.kind ≡ File) topology x.name x.fails.rest call old middle new c x.back;
 }
 
 cut_as : (old new : EdgesSeen) (calls made : List (EdgeKind × List ℕ)) (back : List (List ℕ × SourceSeen)) → SameNames old new → IsCut new calls made back → IsCut old calls made back
@@ -368,8 +391,40 @@ opened_in_part_as feeds topology rest call old middle new c (inl x) = inl (recor
 })
 opened_in_part_as feeds topology rest call old middle new c (inr x) = inr (x.0, x.1, stage_cut_as feeds topology x.0 rest call old middle new c x.2)
 
-broken_off_as : (feeds : Feeds) (topology : Topology) (call : EdgeKind × List ℕ) (calls : List (EdgeKind × List ℕ)) (old middle new : EdgesSeen) → Called old middle call → IsBrokenOff feeds calls topology middle new → IsBrokenOff feeds (call ∷ calls) topology old new
-broken_off_as feeds topology call calls old middle new c x = record {
+live_back_as : (old middle : EdgesSeen) (name : List ℕ) (rest : List (EdgeKind × List ℕ)) (back : List (List ℕ × SinkSeen)) → SameNames old middle → IsLiveBack middle name rest back → IsLiveBack old name rest back
+live_back_as old middle name rest back same (inl x) = inl x
+live_back_as old middle name rest back same (inr x) = inr (x.0, x.1, x.2, gives_sink old middle name x.0 same x.3)
+
+all_opened_in_part_as : (feeds : Feeds) (topology : Topology) (live : List ℕ) (rest : List (EdgeKind × List ℕ)) (call : EdgeKind × List ℕ) (old middle new : EdgesSeen) → Called old middle call
+    → IsAllOpenedInPart feeds topology live rest middle new → IsAllOpenedInPart feeds topology live rest old new
+all_opened_in_part_as feeds topology live rest call old middle new c x = record {
+  made = x.made;
+  to_come = x.to_come;
+  control = x.control;
+  unread = has_source old middle (control_call topology.control) None x.control c.names x.unread;
+  start = x.start;
+  handed = x.handed;
+  bodies = x.bodies;
+  opened = are_opened feeds topology (length topology.stages) old middle x.start x.bodies c.names x.opened;
+  parts = x.parts;
+  more = x.more;
+  inner = x.inner;
+  ungated = x.ungated;
+  back = x.back;
+  unwritten = live_back_as old middle live rest x.back c.names x.unwritten;
+  sources = x.sources ∙ ap (λ l. l ++ x.inner) c.same_sources;
+  sinks = x.sinks ∙ ap (λ l. l ++ (first_sinks feeds x.parts topology x.bodies ++ x.back)) c.same_sinks;
+}
+
+in_part_with_as : (feeds : Feeds) (topology : Topology) (live : Option (List ℕ)) (rest : List (EdgeKind × List ℕ)) (call : EdgeKind × List ℕ) (old middle new : EdgesSeen) → Called old middle call
+    → IsOpenedInPartWith feeds topology live rest middle new → IsOpenedInPartWith feeds topology live rest old new
+in_part_with_as feeds topology None rest call old middle new c x = opened_in_part_as feeds topology rest call old middle new c x
+in_part_with_as feeds topology (Some live) rest call old middle new c (inl x) = inl (x.0, x.1, opened_in_part_as feeds topology x.0 call old middle new c x.2)
+in_part_with_as feeds topology (Some live) rest call old middle new c (inr x) = inr (all_opened_in_part_as feeds topology live rest call old middle new c x)
+
+broken_off_as : (feeds : Feeds) (live : Option (List ℕ)) (topology : Topology) (call : EdgeKind × List ℕ) (calls : List (EdgeKind × List ℕ)) (old middle new : EdgesSeen) → Called old middle call
+    → IsBrokenOff feeds live calls topology middle new → IsBrokenOff feeds live (call ∷ calls) topology old new
+broken_off_as feeds live topology call calls old middle new c x = record {
   front = call ∷ x.front;
   rest = x.rest;
   parts = ap (λ l. call ∷ l) x.parts;
@@ -377,28 +432,55 @@ broken_off_as feeds topology call calls old middle new c x = record {
   back = by_back x.back;
 }
   where
-    by_back : (All (λ (f : EdgeKind × List ℕ). f.0 ≡ File) x.front × IsNothingBack middle new) ⊎ IsOpenedInPart feeds topology x.rest middle new
-        → (All (λ (f : EdgeKind × List ℕ). f.0 ≡ File) (call ∷ x.front) × IsNothingBack old new) ⊎ IsOpenedInPart feeds topology x.rest old new
+    by_back : (All (λ (f : EdgeKind × List ℕ). f.0 ≡ File) x.front × IsNothingBack middle new) ⊎ IsOpenedInPartWith feeds topology live x.rest middle new
+        → (All (λ (f : EdgeKind × List ℕ). f.0 ≡ File) (call ∷ x.front) × IsNothingBack old new) ⊎ IsOpenedInPartWith feeds topology live x.rest old new
     by_back (inl b) = inl (All-cons (λ (f : EdgeKind × List ℕ). f.0 ≡ File) call x.front c.is_file b.0, (b.1.0 ∙ c.same_sources, b.1.1 ∙ c.same_sinks))
-    by_back (inr b) = inr (opened_in_part_as feeds topology x.rest call old middle new c b)
+    by_back (inr b) = inr (in_part_with_as feeds topology live x.rest call old middle new c b)
 
-given_or_wanting : (feeds : Feeds) (memory : Type 0) (topology : Topology) (call : EdgeKind × List ℕ) (calls : List (EdgeKind × List ℕ)) (old middle new : EdgesSeen) → Called old middle call
-    → (memory × IsBrokenOff feeds calls topology middle new) ⊎ IsGivenUp feeds calls topology middle new → (memory × IsBrokenOff feeds (call ∷ calls) topology old new) ⊎ IsGivenUp feeds (call ∷ calls) topology old new
-given_or_wanting feeds memory topology call calls old middle new c (inl m) = inl (m.0, broken_off_as feeds topology call calls old middle new c m.1)
-given_or_wanting feeds memory topology call calls old middle new c (inr x) = inr (given_up_as feeds topology call calls old middle new c x)
+given_or_wanting : (feeds : Feeds) (live : Option (List ℕ)) (memory : Type 0) (topology : Topology) (call : EdgeKind × List ℕ) (calls : List (EdgeKind × List ℕ)) (old middle new : EdgesSeen) → Called old middle call
+    → (memory × IsBrokenOff feeds live calls topology middle new) ⊎ IsGivenUp feeds live calls topology middle new
+    → (memory × IsBrokenOff feeds live (call ∷ calls) topology old new) ⊎ IsGivenUp feeds live (call ∷ calls) topology old new
+given_or_wanting feeds live memory topology call calls old middle new c (inl m) = inl (m.0, broken_off_as feeds live topology call calls old middle new c m.1)
+given_or_wanting feeds live memory topology call calls old middle new c (inr x) = inr (given_up_as feeds live topology call calls old middle new c x)
 
-run_or_not_as : (feeds : Feeds) (memory : Type 0) (wanted : Topology) (topology : Option Topology) (before : History) (call : EdgeKind × List ℕ) (calls : List (EdgeKind × List ℕ)) (old : OutsideSeen) (middle : EdgesSeen) (new : OutsideSeen)
-    → Called old.edges middle call → HasRunOrNot feeds memory calls wanted topology before (with_edges old middle) new → HasRunOrNot feeds memory (call ∷ calls) wanted topology before old new
-run_or_not_as feeds memory wanted (Some t) before call calls old middle new c x = record {
+live_sink_as : (name text : List ℕ) (whole failed : Bool) (old middle behind new : EdgesSeen) → SameNames old middle → IsLiveSink middle name text whole failed behind new → IsLiveSink old name text whole failed behind new
+live_sink_as name text whole failed old middle behind new same x = record {
+  opened = x.opened;
+  given = gives_sink old middle name x.opened same x.given;
+  sink = x.sink;
+  same_telling = x.same_telling;
+  fed = x.fed;
+  fault = x.fault;
+  last = x.last;
+  sources = x.sources;
+  telling = x.telling;
+  asked = x.asked;
+  no_fault = x.no_fault;
+}
+
+outside_with_as : (feeds : Feeds) (whole : Bool) (topology : Topology) (before : History) (live : Option (List ℕ)) (text : List ℕ) (failed : Bool) (call : EdgeKind × List ℕ) (old middle new : EdgesSeen) → Called old middle call
+    → IsOutsideWith feeds whole topology before live text failed middle new → IsOutsideWith feeds whole topology before live text failed old new
+outside_with_as feeds whole topology before None text failed call old middle new c x = outside_as feeds whole topology before call old middle new c x
+outside_with_as feeds whole topology before (Some name) text failed call old middle new c x = record {
+  middle = x.middle;
+  outside = outside_as feeds whole topology before call old middle x.middle c x.outside;
+  sink = live_sink_as name text whole failed old middle x.middle new c.names x.sink;
+}
+
+run_or_not_as : (feeds : Feeds) (live : Option (List ℕ)) (memory : Type 0) (says : Bool → Type 0) (wanted : Topology) (topology : Option Topology) (before : History) (call : EdgeKind × List ℕ) (calls : List (EdgeKind × List ℕ)) (old : OutsideSeen) (middle : EdgesSeen) (new : OutsideSeen)
+    → Called old.edges middle call → HasRunOrNot feeds live memory says calls wanted topology before (with_edges old middle) new → HasRunOrNot feeds live memory says (call ∷ calls) wanted topology before old new
+run_or_not_as feeds live memory says wanted (Some t) before call calls old middle new c x = record {
   whole = x.whole;
   wanting = x.wanting;
-  outside = outside_as feeds x.whole wanted before call old.edges middle new.edges c x.outside;
+  unfed = x.unfed;
+  said = x.said;
+  outside = outside_with_as feeds x.whole wanted before live (ack_text wanted before) x.unfed call old.edges middle new.edges c x.outside;
   time = x.time;
   idle = x.idle;
   boxes = x.boxes;
 }
-run_or_not_as feeds memory wanted None before call calls old middle new c x = record {
-  edges = given_or_wanting feeds memory wanted call calls old.edges middle new.edges c x.edges;
+run_or_not_as feeds live memory says wanted None before call calls old middle new c x = record {
+  edges = given_or_wanting feeds live memory wanted call calls old.edges middle new.edges c x.edges;
   clock = x.clock;
   boxes = x.boxes;
 }
@@ -444,18 +526,18 @@ audited_as (Checks wanted) call old middle new c x = tt
 audited_as (Upgrades file text wanted) call old middle new c x = tt
 audited_as (Audits name summary wanted) call old middle new c x = audit_of_as call name (Ok summary) wanted old middle new c x
 audited_as (Rejects name fault wanted) call old middle new c x = audit_of_as call name (Err fault) wanted old middle new c x
-audited_as (Runs shows feeding wanted) call old middle new c x = tt
+audited_as (Runs shows live feeding wanted) call old middle new c x = tt
 
-outside_of_as : (memory : Type 0) (case : Case) (topology : Option Topology) (before : History) (call : EdgeKind × List ℕ) (calls : List (EdgeKind × List ℕ)) (old : OutsideSeen) (middle : EdgesSeen) (new : OutsideSeen)
-    → Called old.edges middle call → IsOutsideOf memory calls topology before case (with_edges old middle) new → IsOutsideOf memory (call ∷ calls) topology before case old new
-outside_of_as memory NoCommand topology before call calls old middle new c x = untouched_as call old middle new c x
-outside_of_as memory (BadTopology fault) topology before call calls old middle new c x = untouched_as call old middle new c x
-outside_of_as memory (TooFew shortage) topology before call calls old middle new c x = untouched_as call old middle new c x
-outside_of_as memory (Checks wanted) topology before call calls old middle new c x = untouched_as call old middle new c x
-outside_of_as memory (Upgrades file text wanted) topology before call calls old middle new c x = untouched_as call old middle new c x
-outside_of_as memory (Audits name summary wanted) topology before call calls old middle new c x = journal_back_as call name old middle new c x
-outside_of_as memory (Rejects name fault wanted) topology before call calls old middle new c x = journal_back_as call name old middle new c x
-outside_of_as memory (Runs shows feeding wanted) topology before call calls old middle new c x = run_or_not_as (feeds_of feeding wanted) memory wanted topology before call calls old middle new c x
+outside_of_as : (memory : Type 0) (says : Bool → Type 0) (case : Case) (topology : Option Topology) (before : History) (call : EdgeKind × List ℕ) (calls : List (EdgeKind × List ℕ)) (old : OutsideSeen) (middle : EdgesSeen) (new : OutsideSeen)
+    → Called old.edges middle call → IsOutsideOf memory says calls topology before case (with_edges old middle) new → IsOutsideOf memory says (call ∷ calls) topology before case old new
+outside_of_as memory says NoCommand topology before call calls old middle new c x = untouched_as call old middle new c x
+outside_of_as memory says (BadTopology fault) topology before call calls old middle new c x = untouched_as call old middle new c x
+outside_of_as memory says (TooFew shortage) topology before call calls old middle new c x = untouched_as call old middle new c x
+outside_of_as memory says (Checks wanted) topology before call calls old middle new c x = untouched_as call old middle new c x
+outside_of_as memory says (Upgrades file text wanted) topology before call calls old middle new c x = untouched_as call old middle new c x
+outside_of_as memory says (Audits name summary wanted) topology before call calls old middle new c x = journal_back_as call name old middle new c x
+outside_of_as memory says (Rejects name fault wanted) topology before call calls old middle new c x = journal_back_as call name old middle new c x
+outside_of_as memory says (Runs shows live feeding wanted) topology before call calls old middle new c x = run_or_not_as (feeds_of feeding wanted) live memory says wanted topology before call calls old middle new c x
 
 -- ---- the outcome
 
@@ -468,6 +550,7 @@ early_as fails fails' None before (Refused (NoTopology fault)) so e = absurd e
 early_as fails fails' None before (Refused (Stock shortage)) so e = absurd e
 early_as fails fails' None before (Refused (Audit fault)) so e = absurd e
 early_as fails fails' None before (Done texts status) so e = absurd e
+early_as fails fails' None before (Unfed texts line) so e = absurd e
 early_as fails fails' (Some t) before verdict so e = absurd e
 
 outcome_as : (case : Case) (fails fails' : List ℕ → Type 0) (topology : Option Topology) (before : History) (verdict : Verdict) → ((name : List ℕ) → fails name → fails' name)
@@ -484,6 +567,7 @@ asked_as (Refused Memory) call calls asked middle asked' first a = record {
   is = a.is ∙ ap (λ x. x ++ take a.count calls) first ∙ append_assoc asked (call ∷ []) (take a.count calls);
 }
 asked_as (Done texts status) call calls asked middle asked' first a = a ∙ ap (λ x. x ++ calls) first ∙ append_assoc asked (call ∷ []) calls
+asked_as (Unfed texts line) call calls asked middle asked' first a = a ∙ ap (λ x. x ++ calls) first ∙ append_assoc asked (call ∷ []) calls
 asked_as (Refused Usage) call calls asked middle asked' first a = a ∙ ap (λ x. x ++ calls) first ∙ append_assoc asked (call ∷ []) calls
 asked_as (Refused (NoTopology fault)) call calls asked middle asked' first a = a ∙ ap (λ x. x ++ calls) first ∙ append_assoc asked (call ∷ []) calls
 asked_as (Refused (Stock shortage)) call calls asked middle asked' first a = a ∙ ap (λ x. x ++ calls) first ∙ append_assoc asked (call ∷ []) calls
@@ -500,7 +584,7 @@ after_call old middle new case call calls topology before verdict c x = record {
       topology before verdict
       (λ name f. fails_as old.edges.told middle.told call calls old.edges.asked middle.asked new.edges.asked old.edges.faults middle.faults new.edges.faults name c.names.same_telling c.faults_stay c.one_call f)
       x.outcome;
-  outside = outside_of_as (verdict ≡ Refused Memory) case topology before call calls old middle new c x.outside;
+  outside = outside_of_as (verdict ≡ Refused Memory) (ShowsUnfed verdict) case topology before call calls old middle new c x.outside;
   asked_by = λ t. asked_as verdict call calls old.edges.asked middle.asked new.edges.asked (c.one_call t) (x.asked_by (rw c.names.same_telling t));
   same_telling = x.same_telling ∙ c.names.same_telling;
   audited = λ a b. audited_as case call old.edges middle new.edges c (x.audited a b);

@@ -1,9 +1,8 @@
 -- From what a call came to, to the clauses of the top call.
-use Rattle.std.proofs.Common.{◌≡◌, ◌≢◌, ℕ, ◌≤◌, ◌<◌, List, [], ◌∷◌, ◌++◌, length, take, Bool, Option, Some, None, Result, Ok, Err, refl, sym, ◌∙◌, ap, inl, inr, arith}
-use Rattle.std.specs.Prelude.{◌⊎◌, IsTrue}
+use Rattle.std.proofs.Common.{◌≡◌, ◌≢◌, ℕ, ◌≤◌, ◌<◌, List, [], ◌∷◌, ◌++◌, length, take, Bool, Option, Some, None, Result, Ok, Err, refl, sym, ◌∙◌, ap, subst, inl, inr, arith}
+use Rattle.std.specs.Prelude.{◌⊎◌, IsTrue, if◌then◌else◌, nat_le}
 use Rattle.std.proofs.lemmas.List.{append-nil, append_assoc, take_all, take_at}
 use Rattle.std.proofs.Math.Seq.{take-nil}
-use Rattle.std.proofs.lemmas.Bool.{le-leb}
 use Rattle.pipe_types.specs.declared.topology.Topology.{Topology}
 use Rattle.pipe_model.specs.History.{History}
 use Rattle.pipe_edges.specs.declared.edges.EdgeKind.{EdgeKind}
@@ -19,8 +18,9 @@ use Rattle.config_flow.specs.Flow.{flow_topology_of}
 use Rattle.pipe_config.specs.File.{topology_of_file}
 use Rattle.pipe_top.specs.Cases.{Feeding, Named, Filed, MadeFrom, feeds_of, Case, NoCommand, NoTopology as BadTopology, TooFew, Checks, Upgrades, Audits, Rejects, Runs, audit_case, case_of, run_case, unless_short, for_topology, report_alone}
 use Rattle.run_verdicts.specs.Verdicts.{Adds, AddsPrefix, out_text_of, err_text_of, status_in, FaultBy, QuietBy, UnlessNine}
-use Rattle.pipe_top.specs.Runs.{OutsideSeen, IsRunOrNone, IsEndOf, IsOwnTopology, IsStatusOf, IsReportOf, IsRefusal, IsRefused, Lost, IsUntouched, HasUsed, HasNotBegun, HasRunOrNot, IsBrokenOff, IsGivenUp, IsOutsideOf, IsKnownStatus, IsRefusalStatus, IsUnopenedStatus, IsOr, Asks, FailsAt, NamesFault, IsEdgeLine, BeginsLine, out_text, text_of_call, case_line, error_text}
-use Rattle.pipe_top.specs.Flows.{Outcome, IsEarly, AskedBy}
+use Rattle.pipe_top.specs.Runs.{OutsideSeen, IsRunOrNone, IsEndOf, IsOwnTopology, IsStatusOf, IsReportOf, IsRefusal, IsRefused, Lost, IsUntouched, HasUsed, HasNotBegun, HasRunOrNot, IsBrokenOff, IsGivenUp, IsOutsideOf, IsEndStatus, IsRunStatus, SaysUnfed, IsUnfedBy, IsUnfed, IsUnfedIn, live_line, IsKnownStatus, IsRefusalStatus, IsUnopenedStatus, IsOr, Asks, FailsAt, NamesFault, IsEdgeLine, BeginsLine, out_text, text_of_call, case_line, error_text}
+use Rattle.pipe_top.specs.Flows.{Outcome, IsEarly, AskedBy, ShowsUnfed}
+use Rattle.run_verdicts.specs.declared.verdict.Texts.{Texts}
 use Rattle.run_verdicts.specs.declared.verdict.Refusal.{Refusal}
 use Rattle.run_verdicts.specs.declared.verdict.Refusal.TheVariants.{Usage, Topology as NoTopology, Stock, Edge, Audit, Memory}
 use Rattle.run_verdicts.specs.Audits.{fault_line, fault_status}
@@ -28,8 +28,9 @@ use Rattle.run_verdicts.specs.declared.audits.AuditFault.{AuditFault}
 use Rattle.run_verdicts.specs.declared.audits.AuditFault.TheVariants.{Line, Large, Wait, Source}
 use Rattle.run_verdicts.specs.declared.verdict.Shows.{Shows}
 use Rattle.run_verdicts.specs.declared.verdict.Verdict.{Verdict}
-use Rattle.run_verdicts.specs.declared.verdict.Verdict.TheVariants.{Refused, Done}
-use Rattle.pipe_top.proofs.Outcomes.{Fails, Early, early, Reported, ran, settled, is_small, not_small, not_both, few_of}
+use Rattle.run_verdicts.specs.declared.verdict.Verdict.TheVariants.{Refused, Done, Unfed}
+use Rattle.pipe_top.proofs.Outcomes.{Fails, Early, early, IsDone, IsUnfedWith, Reported, done_few, ran, settled, is_reported, is_small, is_status, not_small, not_both, ended_of, err_of, few_of, out_of, run_status}
+use Rattle.pipe_top.proofs.Statuses.{status_few}
 
 -- ---- the statuses of verdicts
 
@@ -44,15 +45,15 @@ nine_or_five : (s n : ℕ) → (s ≡ 9) ⊎ (s ≡ 5) → s ≡ n → n ≢ 9 �
 nine_or_five s n (inl is) at a b = a (omega (arith, is, at))
 nine_or_five s n (inr is) at a b = b (omega (arith, is, at))
 
-early_big : (s : ℕ) → (s ≡ 9) ⊎ (s ≡ 5) → s ≤ 4 → ⊥
-early_big s (inl is) few = omega (arith, is, few)
-early_big s (inr is) few = omega (arith, is, few)
+early_big : (s : ℕ) → (s ≡ 9) ⊎ (s ≡ 5) → IsEndStatus s → ⊥
+early_big s (inl is) few = not_small 9 s is (omega arith) (omega arith) few
+early_big s (inr is) few = not_small 5 s is (omega arith) (omega arith) few
 
 -- the statuses of an audit that found no legal journal
 fault_known : (fault : AuditFault) → IsKnownStatus (fault_status fault)
-fault_known (Line line cause) = inr refl
-fault_known Large = inr refl
-fault_known Wait = inr refl
+fault_known (Line line cause) = inr (inl refl)
+fault_known Large = inr (inl refl)
+fault_known Wait = inr (inl refl)
 fault_known Source = inl (omega arith)
 
 -- they are none of a call by name that failed, of a topology, of words, of a write or of wanting memory
@@ -61,6 +62,12 @@ fault_not (Line line cause) n low high is = omega (arith, low, high, is)
 fault_not Large n low high is = omega (arith, low, high, is)
 fault_not Wait n low high is = omega (arith, low, high, is)
 fault_not Source n low high is = omega (arith, low, high, is)
+
+fault_not_twelve : (fault : AuditFault) → fault_status fault ≡ 12 → ⊥
+fault_not_twelve (Line line cause) is = omega (arith, is)
+fault_not_twelve Large is = omega (arith, is)
+fault_not_twelve Wait is = omega (arith, is)
+fault_not_twelve Source is = omega (arith, is)
 
 -- its line is written under 11
 fault_text : (fault : AuditFault) (name : List ℕ) (wanted : Topology) → fault_line fault ≡ error_text (fault_status fault) (Rejects name fault wanted)
@@ -82,10 +89,14 @@ known (Checks wanted) fails topology before verdict (inr r) = inl (rw r.counted 
 known (Upgrades file text wanted) fails topology before verdict (inr r) = inl (rw r.counted (omega arith))
 known (Audits name summary wanted) fails topology before verdict (inr r) = inl (rw r.counted (omega arith))
 known (Rejects name fault wanted) fails topology before verdict (inr r) = rw r.refused (fault_known fault)
-known (Runs shows feeding wanted) fails topology before verdict (inr r) = by_run (ran verdict shows wanted before r.comes_to)
+known (Runs shows live feeding wanted) fails topology before verdict (inr r) = by_run (ran verdict shows live wanted before r.comes_to)
   where
-    by_run : Reported shows wanted before verdict ⊎ (verdict ≡ Refused Memory) → IsKnownStatus (status_in verdict)
-    by_run (inl v) = inl (omega (arith, few_of v))
+    known_end : IsEndStatus (status_in verdict) → IsKnownStatus (status_in verdict)
+    known_end (inl few) = inl (omega (arith, few))
+    known_end (inr twelve) = inr (inr twelve)
+
+    by_run : Reported shows live wanted before verdict ⊎ (verdict ≡ Refused Memory) → IsKnownStatus (status_in verdict)
+    by_run (inl v) = known_end (few_of v)
     by_run (inr is) = inl (rw is (omega arith))
 
 -- 8 is no status of a verdict
@@ -98,10 +109,10 @@ never_eight (Checks wanted) fails topology before verdict (inr r) = rw r.counted
 never_eight (Upgrades file text wanted) fails topology before verdict (inr r) = rw r.counted (λ x. cc)
 never_eight (Audits name summary wanted) fails topology before verdict (inr r) = rw r.counted (λ x. cc)
 never_eight (Rejects name fault wanted) fails topology before verdict (inr r) = rw r.refused (λ x. fault_not fault 8 (omega arith) (omega arith) x)
-never_eight (Runs shows feeding wanted) fails topology before verdict (inr r) = by_run (ran verdict shows wanted before r.comes_to)
+never_eight (Runs shows live feeding wanted) fails topology before verdict (inr r) = by_run (ran verdict shows live wanted before r.comes_to)
   where
-    by_run : Reported shows wanted before verdict ⊎ (verdict ≡ Refused Memory) → status_in verdict ≢ 8
-    by_run (inl v) = λ at. omega (arith, at, few_of v)
+    by_run : Reported shows live wanted before verdict ⊎ (verdict ≡ Refused Memory) → status_in verdict ≢ 8
+    by_run (inl v) = λ at. not_small 8 (status_in verdict) at (omega arith) (omega arith) (few_of v)
     by_run (inr is) = rw is (λ x. cc)
 
 -- ---- the topology and the end
@@ -115,7 +126,7 @@ own (Checks wanted) fails topology before verdict (inr r) = rw r.own (refl, r.no
 own (Upgrades file text wanted) fails topology before verdict (inr r) = rw r.own (refl, r.no_step)
 own (Audits name summary wanted) fails topology before verdict (inr r) = rw r.own (refl, r.no_step)
 own (Rejects name fault wanted) fails topology before verdict (inr r) = rw r.no_topology r.no_step
-own (Runs shows feeding wanted) fails topology before verdict (inr r) = rw r.own refl
+own (Runs shows live feeding wanted) fails topology before verdict (inr r) = rw r.own refl
 
 pub run : (case : Case) (fails : List ℕ → Type 0) (topology : Option Topology) (before : History) (verdict : Verdict) → Outcome case fails topology before verdict → IsRunOrNone topology before
 run case fails topology before verdict (inl e) = rw (early fails topology before verdict e).no_topology (early fails topology before verdict e).no_step
@@ -126,50 +137,50 @@ run (Checks wanted) fails topology before verdict (inr r) = rw r.own r.run
 run (Upgrades file text wanted) fails topology before verdict (inr r) = rw r.own r.run
 run (Audits name summary wanted) fails topology before verdict (inr r) = rw r.own r.run
 run (Rejects name fault wanted) fails topology before verdict (inr r) = rw r.no_topology r.no_step
-run (Runs shows feeding wanted) fails topology before verdict (inr r) = rw r.own r.run
+run (Runs shows live feeding wanted) fails topology before verdict (inr r) = rw r.own r.run
 
-ended_in : (case : Case) (fails : List ℕ → Type 0) (topology : Option Topology) (before : History) (verdict : Verdict) → Outcome case fails topology before verdict → status_in verdict ≤ 4
+ended_in : (case : Case) (fails : List ℕ → Type 0) (topology : Option Topology) (before : History) (verdict : Verdict) → Outcome case fails topology before verdict → IsEndStatus (status_in verdict)
     → IsEndOf topology before (status_in verdict) case
 ended_in case fails topology before verdict (inl e) few = absurd (early_big (status_in verdict) (early_at fails topology before verdict e) few)
-ended_in NoCommand fails topology before verdict (inr r) few = absurd (not_small 7 (status_in verdict) (ap status_in r.refused) (omega arith) few)
-ended_in (BadTopology fault) fails topology before verdict (inr r) few = absurd (not_small 6 (status_in verdict) (ap status_in r.refused) (omega arith) few)
-ended_in (TooFew shortage) fails topology before verdict (inr r) few = absurd (not_small 6 (status_in verdict) (ap status_in r.refused) (omega arith) few)
+ended_in NoCommand fails topology before verdict (inr r) few = absurd (not_small 7 (status_in verdict) (ap status_in r.refused) (omega arith) (omega arith) few)
+ended_in (BadTopology fault) fails topology before verdict (inr r) few = absurd (not_small 6 (status_in verdict) (ap status_in r.refused) (omega arith) (omega arith) few)
+ended_in (TooFew shortage) fails topology before verdict (inr r) few = absurd (not_small 6 (status_in verdict) (ap status_in r.refused) (omega arith) (omega arith) few)
 ended_in (Checks wanted) fails topology before verdict (inr r) few = (ap status_in r.counted, r.own, r.no_step)
 ended_in (Upgrades file text wanted) fails topology before verdict (inr r) few = (ap status_in r.counted, r.own, r.no_step, r.upgrade)
 ended_in (Audits name summary wanted) fails topology before verdict (inr r) few = (ap status_in r.counted, r.own, r.no_step)
 ended_in (Rejects name fault wanted) fails topology before verdict (inr r) few = (ap status_in r.refused, r.no_topology, r.no_step)
-ended_in (Runs shows feeding wanted) fails topology before verdict (inr r) few = by_run (ran verdict shows wanted before r.comes_to)
+ended_in (Runs shows live feeding wanted) fails topology before verdict (inr r) few = by_run (ran verdict shows live wanted before r.comes_to)
   where
-    by_run : Reported shows wanted before verdict ⊎ (verdict ≡ Refused Memory) → IsEndOf topology before (status_in verdict) (Runs shows feeding wanted)
-    by_run (inl v) = (r.own, rw v.is v.report.ended)
-    by_run (inr is) = absurd (not_small 9 (status_in verdict) (ap status_in is) (omega arith) few)
+    by_run : Reported shows live wanted before verdict ⊎ (verdict ≡ Refused Memory) → IsEndOf topology before (status_in verdict) (Runs shows live feeding wanted)
+    by_run (inl v) = (r.own, ended_of v)
+    by_run (inr is) = absurd (not_small 9 (status_in verdict) (ap status_in is) (omega arith) (omega arith) few)
 
 pub ended : (case : Case) (fails : List ℕ → Type 0) (topology : Option Topology) (before : History) (verdict : Verdict) (status : ℕ) → Outcome case fails topology before verdict
-    → (status ≡ status_in verdict) ⊎ ((status ≡ 8) ⊎ (status ≡ 9)) → status ≤ 4 → IsEndOf topology before status case
+    → (status ≡ status_in verdict) ⊎ ((status ≡ 8) ⊎ (status ≡ 9)) → IsEndStatus status → IsEndOf topology before status case
 ended case fails topology before verdict status o is few =
     let e = is_small status (status_in verdict) is few in
     rw e (ended_in case fails topology before verdict o (rw e at few))
 
 -- ---- the output
 
-small_text : (before : History) (case : Case) (fails : List ℕ → Type 0) (topology : Option Topology) (verdict : Verdict) → Outcome case fails topology before verdict → status_in verdict ≤ 4
+small_text : (before : History) (case : Case) (fails : List ℕ → Type 0) (topology : Option Topology) (verdict : Verdict) → Outcome case fails topology before verdict → IsEndStatus (status_in verdict)
     → out_text_of verdict ≡ out_text before case
 small_text before case fails topology verdict (inl e) few = absurd (early_big (status_in verdict) (early_at fails topology before verdict e) few)
-small_text before NoCommand fails topology verdict (inr r) few = absurd (not_small 7 (status_in verdict) (ap status_in r.refused) (omega arith) few)
-small_text before (BadTopology fault) fails topology verdict (inr r) few = absurd (not_small 6 (status_in verdict) (ap status_in r.refused) (omega arith) few)
-small_text before (TooFew shortage) fails topology verdict (inr r) few = absurd (not_small 6 (status_in verdict) (ap status_in r.refused) (omega arith) few)
+small_text before NoCommand fails topology verdict (inr r) few = absurd (not_small 7 (status_in verdict) (ap status_in r.refused) (omega arith) (omega arith) few)
+small_text before (BadTopology fault) fails topology verdict (inr r) few = absurd (not_small 6 (status_in verdict) (ap status_in r.refused) (omega arith) (omega arith) few)
+small_text before (TooFew shortage) fails topology verdict (inr r) few = absurd (not_small 6 (status_in verdict) (ap status_in r.refused) (omega arith) (omega arith) few)
 small_text before (Checks wanted) fails topology verdict (inr r) few = rw r.counted r.counts
 small_text before (Upgrades file text wanted) fails topology verdict (inr r) few = rw r.counted r.counts
 small_text before (Audits name summary wanted) fails topology verdict (inr r) few = rw r.counted r.counts
 small_text before (Rejects name fault wanted) fails topology verdict (inr r) few = ap out_text_of r.refused
-small_text before (Runs shows feeding wanted) fails topology verdict (inr r) few = by_run (ran verdict shows wanted before r.comes_to)
+small_text before (Runs shows live feeding wanted) fails topology verdict (inr r) few = by_run (ran verdict shows live wanted before r.comes_to)
   where
-    by_run : Reported shows wanted before verdict ⊎ (verdict ≡ Refused Memory) → out_text_of verdict ≡ out_text before (Runs shows feeding wanted)
-    by_run (inl v) = rw v.is v.report.by_journal
-    by_run (inr is) = absurd (not_small 9 (status_in verdict) (ap status_in is) (omega arith) few)
+    by_run : Reported shows live wanted before verdict ⊎ (verdict ≡ Refused Memory) → out_text_of verdict ≡ out_text before (Runs shows live feeding wanted)
+    by_run (inl v) = out_of v
+    by_run (inr is) = absurd (not_small 9 (status_in verdict) (ap status_in is) (omega arith) (omega arith) few)
 
 pub reported : (case : Case) (fails : List ℕ → Type 0) (topology : Option Topology) (before : History) (verdict : Verdict) (status : ℕ) (held held' : List ℕ) → Outcome case fails topology before verdict
-    → (status ≡ status_in verdict) ⊎ ((status ≡ 8) ⊎ (status ≡ 9)) → status ≤ 4 → Adds held held' (out_text_of verdict) → Adds held held' (out_text before case)
+    → (status ≡ status_in verdict) ⊎ ((status ≡ 8) ⊎ (status ≡ 9)) → IsEndStatus status → Adds held held' (out_text_of verdict) → Adds held held' (out_text before case)
 reported case fails topology before verdict status held held' o is few adds =
     adds ∙ ap (λ text. held ++ text) (small_text before case fails topology verdict o (rw (is_small status (status_in verdict) is few) at few))
 
@@ -204,40 +215,38 @@ begun (Audits name summary wanted) fails topology before verdict held held' (inr
     let counted : AddsPrefix held held' (out_text_of (Done r.texts 0)) = rw r.counted at b in
     rw r.own (rw r.counts at counted)
 begun (Rejects name fault wanted) fails topology before verdict held held' (inr r) b = rw r.no_topology (begun_refusal held held' [] verdict (Audit fault) r.refused b)
-begun (Runs shows feeding wanted) fails topology before verdict held held' (inr r) b = rw r.own (by_run (ran verdict shows wanted before r.comes_to))
+begun (Runs shows live feeding wanted) fails topology before verdict held held' (inr r) b = rw r.own (by_run (ran verdict shows live wanted before r.comes_to))
   where
-    by_run : Reported shows wanted before verdict ⊎ (verdict ≡ Refused Memory) → AddsPrefix held held' (out_text before (Runs shows feeding wanted))
-    by_run (inl v) =
-        let written : AddsPrefix held held' (out_text_of (Done v.texts v.status)) = rw v.is at b in
-        rw v.report.by_journal at written
-    by_run (inr is) = begun_refusal held held' (out_text before (Runs shows feeding wanted)) verdict Memory is b
+    by_run : Reported shows live wanted before verdict ⊎ (verdict ≡ Refused Memory) → AddsPrefix held held' (out_text before (Runs shows live feeding wanted))
+    by_run (inl v) = rw (out_of v) at b
+    by_run (inr is) = begun_refusal held held' (out_text before (Runs shows live feeding wanted)) verdict Memory is b
 
 -- texts are written with 0 to 4 alone
 texts_small : (case : Case) (fails : List ℕ → Type 0) (topology : Option Topology) (before : History) (verdict : Verdict) → Outcome case fails topology before verdict
-    → (status_in verdict ≤ 4) ⊎ (out_text_of verdict ≡ [])
+    → IsEndStatus (status_in verdict) ⊎ (out_text_of verdict ≡ [])
 texts_small case fails topology before verdict (inl e) = by_early (early fails topology before verdict e).why
   where
-    by_early : (verdict ≡ Refused Memory) ⊎ Fails fails verdict → (status_in verdict ≤ 4) ⊎ (out_text_of verdict ≡ [])
+    by_early : (verdict ≡ Refused Memory) ⊎ Fails fails verdict → IsEndStatus (status_in verdict) ⊎ (out_text_of verdict ≡ [])
     by_early (inl is) = inr (ap out_text_of is)
     by_early (inr f) = inr (ap out_text_of f.is)
 texts_small NoCommand fails topology before verdict (inr r) = inr (ap out_text_of r.refused)
 texts_small (BadTopology fault) fails topology before verdict (inr r) = inr (ap out_text_of r.refused)
 texts_small (TooFew shortage) fails topology before verdict (inr r) = inr (ap out_text_of r.refused)
-texts_small (Checks wanted) fails topology before verdict (inr r) = inl (rw r.counted (omega arith))
-texts_small (Upgrades file text wanted) fails topology before verdict (inr r) = inl (rw r.counted (omega arith))
-texts_small (Audits name summary wanted) fails topology before verdict (inr r) = inl (rw r.counted (omega arith))
+texts_small (Checks wanted) fails topology before verdict (inr r) = inl (inl (rw r.counted (omega arith)))
+texts_small (Upgrades file text wanted) fails topology before verdict (inr r) = inl (inl (rw r.counted (omega arith)))
+texts_small (Audits name summary wanted) fails topology before verdict (inr r) = inl (inl (rw r.counted (omega arith)))
 texts_small (Rejects name fault wanted) fails topology before verdict (inr r) = inr (ap out_text_of r.refused)
-texts_small (Runs shows feeding wanted) fails topology before verdict (inr r) = by_run (ran verdict shows wanted before r.comes_to)
+texts_small (Runs shows live feeding wanted) fails topology before verdict (inr r) = by_run (ran verdict shows live wanted before r.comes_to)
   where
-    by_run : Reported shows wanted before verdict ⊎ (verdict ≡ Refused Memory) → (status_in verdict ≤ 4) ⊎ (out_text_of verdict ≡ [])
+    by_run : Reported shows live wanted before verdict ⊎ (verdict ≡ Refused Memory) → IsEndStatus (status_in verdict) ⊎ (out_text_of verdict ≡ [])
     by_run (inl v) = inl (few_of v)
     by_run (inr is) = inr (ap out_text_of is)
 
 -- the numbers of a refusal
-refusal_is : (s : ℕ) → IsRefusalStatus s → (4 < s) × (s ≢ 8) × (s ≢ 9)
-refusal_is s (inl a) = (omega (arith, a), (λ at. omega (arith, a, at)), (λ at. omega (arith, a, at)))
-refusal_is s (inr (inl a)) = (omega (arith, a), (λ at. omega (arith, a, at)), (λ at. omega (arith, a, at)))
-refusal_is s (inr (inr a)) = (omega (arith, a), (λ at. omega (arith, a, at)), (λ at. omega (arith, a, at)))
+refusal_is : (s : ℕ) → IsRefusalStatus s → (4 < s) × (s ≢ 8) × (s ≢ 9) × (s < 12)
+refusal_is s (inl a) = (omega (arith, a), (λ at. omega (arith, a, at)), (λ at. omega (arith, a, at)), omega (arith, a))
+refusal_is s (inr (inl a)) = (omega (arith, a), (λ at. omega (arith, a, at)), (λ at. omega (arith, a, at)), omega (arith, a))
+refusal_is s (inr (inr a)) = (omega (arith, a), (λ at. omega (arith, a, at)), (λ at. omega (arith, a, at)), omega (arith, a))
 
 -- under a refusal nothing is written to the output
 pub unwritten_out : (case : Case) (fails : List ℕ → Type 0) (topology : Option Topology) (before : History) (verdict : Verdict) (status : ℕ) (held held' : List ℕ) → Outcome case fails topology before verdict
@@ -245,22 +254,23 @@ pub unwritten_out : (case : Case) (fails : List ℕ → Type 0) (topology : Opti
 unwritten_out case fails topology before verdict status held held' o is refusal adds =
     let r = refusal_is status refusal in
     let s = settled status (status_in verdict) is r.1 r.2 in
-    adds r.1 ∙ ap (λ text. held ++ text) (no_text s r.0 (texts_small case fails topology before verdict o)) ∙ append-nil held
+    adds r.1 ∙ ap (λ text. held ++ text) (no_text s r.0 r.3 (texts_small case fails topology before verdict o)) ∙ append-nil held
   where
-    no_text : status ≡ status_in verdict → 4 < status → (status_in verdict ≤ 4) ⊎ (out_text_of verdict ≡ []) → out_text_of verdict ≡ []
-    no_text s more (inl few) = absurd (omega (arith, s, more, few))
-    no_text s more (inr none) = none
+    no_text : status ≡ status_in verdict → 4 < status → status < 12 → IsEndStatus (status_in verdict) ⊎ (out_text_of verdict ≡ []) → out_text_of verdict ≡ []
+    no_text s more less (inl few) = absurd (not_small status (status_in verdict) (sym s) more less few)
+    no_text s more less (inr none) = none
 
 -- under 9 nothing is written to the output
 pub unwritten_nine : (case : Case) (fails : List ℕ → Type 0) (topology : Option Topology) (before : History) (verdict : Verdict) (status : ℕ) (held held' : List ℕ) → Outcome case fails topology before verdict
     → status ≡ 9 → (status ≢ 8 → Adds held held' (out_text_of verdict)) → UnlessNine verdict (held' ≡ held) → held' ≡ held
 unwritten_nine case fails topology before verdict status held held' o nine adds nothing = by_text (texts_small case fails topology before verdict o)
   where
-    small : (v : Verdict) → status_in v ≤ 4 → UnlessNine v (held' ≡ held) → held' ≡ held
-    small (Done texts s) few unless = unless (λ at. omega (arith, few, at))
+    small : (v : Verdict) → IsEndStatus (status_in v) → UnlessNine v (held' ≡ held) → held' ≡ held
+    small (Done texts s) few unless = unless (λ at. not_small 9 s at (omega arith) (omega arith) few)
+    small (Unfed texts line) few unless = unless
     small (Refused refusal) few unless = unless
 
-    by_text : (status_in verdict ≤ 4) ⊎ (out_text_of verdict ≡ []) → held' ≡ held
+    by_text : IsEndStatus (status_in verdict) ⊎ (out_text_of verdict ≡ []) → held' ≡ held
     by_text (inl few) = small verdict few nothing
     by_text (inr none) = adds (λ eight. omega (arith, nine, eight)) ∙ ap (λ text. held ++ text) none ∙ append-nil held
 
@@ -280,10 +290,10 @@ status_is (Checks wanted) fails topology before verdict (inr r) a b = ap status_
 status_is (Upgrades file text wanted) fails topology before verdict (inr r) a b = ap status_in r.counted
 status_is (Audits name summary wanted) fails topology before verdict (inr r) a b = ap status_in r.counted
 status_is (Rejects name fault wanted) fails topology before verdict (inr r) a b = ap status_in r.refused
-status_is (Runs shows feeding wanted) fails topology before verdict (inr r) a b = by_run (ran verdict shows wanted before r.comes_to)
+status_is (Runs shows live feeding wanted) fails topology before verdict (inr r) a b = by_run (ran verdict shows live wanted before r.comes_to)
   where
-    by_run : Reported shows wanted before verdict ⊎ (verdict ≡ Refused Memory) → IsStatusOf (status_in verdict) (Runs shows feeding wanted)
-    by_run (inl v) = few_of v
+    by_run : Reported shows live wanted before verdict ⊎ (verdict ≡ Refused Memory) → IsStatusOf (status_in verdict) (Runs shows live feeding wanted)
+    by_run (inl v) = run_status v
     by_run (inr is) = absurd (b (ap status_in is))
 
 pub line_is : (case : Case) (fails : List ℕ → Type 0) (topology : Option Topology) (before : History) (verdict : Verdict) → Outcome case fails topology before verdict
@@ -300,13 +310,10 @@ line_is (Checks wanted) fails topology before verdict (inr r) a b = rw r.counted
 line_is (Upgrades file text wanted) fails topology before verdict (inr r) a b = rw r.counted refl
 line_is (Audits name summary wanted) fails topology before verdict (inr r) a b = rw r.counted refl
 line_is (Rejects name fault wanted) fails topology before verdict (inr r) a b = rw r.refused (fault_text fault name wanted)
-line_is (Runs shows feeding wanted) fails topology before verdict (inr r) a b = by_run (ran verdict shows wanted before r.comes_to)
+line_is (Runs shows live feeding wanted) fails topology before verdict (inr r) a b = by_run (ran verdict shows live wanted before r.comes_to)
   where
-    small_line : (s : ℕ) → s ≤ 4 → [] ≡ error_text s (Runs shows feeding wanted)
-    small_line s few = rw (le-leb s 4 few) refl
-
-    by_run : Reported shows wanted before verdict ⊎ (verdict ≡ Refused Memory) → err_text_of verdict ≡ error_text (status_in verdict) (Runs shows feeding wanted)
-    by_run (inl v) = ap err_text_of v.is ∙ small_line (status_in verdict) (few_of v)
+    by_run : Reported shows live wanted before verdict ⊎ (verdict ≡ Refused Memory) → err_text_of verdict ≡ error_text (status_in verdict) (Runs shows live feeding wanted)
+    by_run (inl v) = err_of v
     by_run (inr is) = absurd (b (ap status_in is))
 
 pub statuses : (case : Case) (fails : List ℕ → Type 0) (topology : Option Topology) (before : History) (verdict : Verdict) (status : ℕ) → Outcome case fails topology before verdict
@@ -348,11 +355,16 @@ one_line (Checks wanted) told calls asked asked' fault topology before verdict s
 one_line (Upgrades file text wanted) told calls asked asked' fault topology before verdict status wanting (inr r) = inl (ap err_text_of r.counted)
 one_line (Audits name summary wanted) told calls asked asked' fault topology before verdict status wanting (inr r) = inl (ap err_text_of r.counted)
 one_line (Rejects name f wanted) told calls asked asked' fault topology before verdict status wanting (inr r) = inr (inl (ap err_text_of r.refused))
-one_line (Runs shows feeding wanted) told calls asked asked' fault topology before verdict status wanting (inr r) = by_run (ran verdict shows wanted before r.comes_to)
+one_line (Runs shows live feeding wanted) told calls asked asked' fault topology before verdict status wanting (inr r) = by_run (ran verdict shows live wanted before r.comes_to)
   where
-    by_run : Reported shows wanted before verdict ⊎ (verdict ≡ Refused Memory)
-        → (err_text_of verdict ≡ []) ⊎ ((err_text_of verdict ≡ case_line (Runs shows feeding wanted)) ⊎ (((err_text_of verdict ≡ memory_line) × (status ≡ 9)) ⊎ IsEdgeLine told calls asked asked' fault topology (err_text_of verdict)))
-    by_run (inl v) = inl (ap err_text_of v.is)
+    by_line : (b : Bool) → err_text_of verdict ≡ (if b then [] else live_line live)
+        → (err_text_of verdict ≡ []) ⊎ ((err_text_of verdict ≡ case_line (Runs shows live feeding wanted)) ⊎ (((err_text_of verdict ≡ memory_line) × (status ≡ 9)) ⊎ IsEdgeLine told calls asked asked' fault topology (err_text_of verdict)))
+    by_line Bool.true is = inl is
+    by_line Bool.false is = inr (inl is)
+
+    by_run : Reported shows live wanted before verdict ⊎ (verdict ≡ Refused Memory)
+        → (err_text_of verdict ≡ []) ⊎ ((err_text_of verdict ≡ case_line (Runs shows live feeding wanted)) ⊎ (((err_text_of verdict ≡ memory_line) × (status ≡ 9)) ⊎ IsEdgeLine told calls asked asked' fault topology (err_text_of verdict)))
+    by_run (inl v) = by_line (nat_le (status_in verdict) 4) (err_of v)
     by_run (inr is) = inr (inr (inl (ap err_text_of is, wanting is)))
 
 pub line_begun : (case : Case) (told : Bool) (calls asked asked' : List (EdgeKind × List ℕ)) (fault : Type 0) (topology : Option Topology) (before : History) (verdict : Verdict) (status : ℕ) (held held' : List ℕ) → (verdict ≡ Refused Memory → status ≡ 9)
@@ -385,16 +397,17 @@ named_fault (Checks wanted) told calls asked asked' fault err_told topology befo
 named_fault (Upgrades file text wanted) told calls asked asked' fault err_told topology before verdict held held' (inr r) five adds = absurd (not_both 0 5 (status_in verdict) (ap status_in r.counted) five (λ x. cc))
 named_fault (Audits name summary wanted) told calls asked asked' fault err_told topology before verdict held held' (inr r) five adds = absurd (not_both 0 5 (status_in verdict) (ap status_in r.counted) five (λ x. cc))
 named_fault (Rejects name f wanted) told calls asked asked' fault err_told topology before verdict held held' (inr r) five adds = absurd (fault_not f 5 (omega arith) (omega arith) (sym (ap status_in r.refused) ∙ five))
-named_fault (Runs shows feeding wanted) told calls asked asked' fault err_told topology before verdict held held' (inr r) five adds = absurd (by_run (ran verdict shows wanted before r.comes_to))
+named_fault (Runs shows live feeding wanted) told calls asked asked' fault err_told topology before verdict held held' (inr r) five adds = absurd (by_run (ran verdict shows live wanted before r.comes_to))
   where
-    by_run : Reported shows wanted before verdict ⊎ (verdict ≡ Refused Memory) → ⊥
-    by_run (inl v) = not_small 5 (status_in verdict) five (omega arith) (few_of v)
+    by_run : Reported shows live wanted before verdict ⊎ (verdict ≡ Refused Memory) → ⊥
+    by_run (inl v) = not_small 5 (status_in verdict) five (omega arith) (omega arith) (few_of v)
     by_run (inr is) = not_both 9 5 (status_in verdict) (ap status_in is) five (λ x. cc)
 
 -- ---- a write that failed
 
 pub fault_by : (verdict : Verdict) (out err : Type 0) → FaultBy verdict out err → out ⊎ err
 fault_by (Done texts s) out err fault = inl fault
+fault_by (Unfed texts line) out err fault = fault
 fault_by (Refused refusal) out err fault = inr fault
 
 -- ---- the words
@@ -408,14 +421,14 @@ number (Checks wanted) = 1
 number (Upgrades file text wanted) = 1
 number (Audits name summary wanted) = 1
 number (Rejects name fault wanted) = 1
-number (Runs shows feeding wanted) = 1
+number (Runs shows live feeding wanted) = 1
 
 short_case : (short : Option Shortage) (case : Case) → number case ≡ 1 → number (unless_short short case) ≡ 1
 short_case None case is = is
 short_case (Some shortage) case is = refl
 
-run_number : (boxes : Boxes) (shows : Shows) (feeding : Feeding) (topology : Topology) → number (run_case boxes shows feeding topology) ≡ 1
-run_number boxes shows feeding topology = short_case (shortage_of topology boxes) (Runs shows feeding topology) refl
+run_number : (boxes : Boxes) (shows : Shows) (live : Option (List ℕ)) (feeding : Feeding) (topology : Topology) → number (run_case boxes shows live feeding topology) ≡ 1
+run_number boxes shows live feeding topology = short_case (shortage_of topology boxes) (Runs shows live feeding topology) refl
 
 checked_number : (read : Result Topology ConfigFault) → number (for_topology read Checks) ≡ 1
 checked_number (Ok topology) = refl
@@ -430,17 +443,17 @@ judged_number (Ok topology) name (Ok summary) = refl
 judged_number (Ok topology) name (Err fault) = refl
 judged_number (Err fault) name found = refl
 
-loaded_number : (read : Result Topology ConfigFault) (boxes : Boxes) (shows : Shows) (feeding : Feeding) → number (for_topology read (run_case boxes shows feeding)) ≡ 1
-loaded_number (Ok topology) boxes shows feeding = run_number boxes shows feeding topology
-loaded_number (Err fault) boxes shows feeding = refl
+loaded_number : (read : Result Topology ConfigFault) (boxes : Boxes) (shows : Shows) (live : Option (List ℕ)) (feeding : Feeding) → number (for_topology read (run_case boxes shows live feeding)) ≡ 1
+loaded_number (Ok topology) boxes shows live feeding = run_number boxes shows live feeding topology
+loaded_number (Err fault) boxes shows live feeding = refl
 
 some_number : (command : Command) (file text : List ℕ) (found : Result Summary AuditFault) (boxes : Boxes) → number (case_of (Some command) file text found boxes) ≡ 1
-some_number (Flow source prefix) file text found boxes = run_number boxes report_alone Named (flow_topology_of source prefix)
+some_number (Flow source prefix) file text found boxes = run_number boxes report_alone None Named (flow_topology_of source prefix)
 some_number (Check path) file text found boxes = checked_number (topology_of_file file)
 some_number (Upgrade path) file text found boxes = upgraded_number (topology_of_file file) file text
 some_number (AuditOf journal path) file text found boxes = judged_number (topology_of_file file) journal found
-some_number (Run path workers acks steps) file text found boxes = loaded_number (topology_of_file file) boxes (record { steps = steps; acks = acks }) Filed
-some_number (Gen seed count path) file text found boxes = loaded_number (topology_of_file file) boxes report_alone (MadeFrom seed count)
+some_number (Run path workers acks steps live) file text found boxes = loaded_number (topology_of_file file) boxes (record { steps = steps; acks = acks }) live Filed
+some_number (Gen seed count path) file text found boxes = loaded_number (topology_of_file file) boxes report_alone None (MadeFrom seed count)
 
 of_seven : (case : Case) → IsStatusOf 7 case → number case ≡ 0
 of_seven NoCommand is = refl
@@ -450,7 +463,11 @@ of_seven (Checks wanted) is = absurd (omega (arith, is))
 of_seven (Upgrades file text wanted) is = absurd (omega (arith, is))
 of_seven (Audits name summary wanted) is = absurd (omega (arith, is))
 of_seven (Rejects name fault wanted) is = absurd (fault_not fault 7 (omega arith) (omega arith) (sym is))
-of_seven (Runs shows feeding wanted) few = absurd (omega (arith, few))
+of_seven (Runs shows live feeding wanted) few = absurd (no_seven live few)
+  where
+    no_seven : (o : Option (List ℕ)) → IsRunStatus o 7 → ⊥
+    no_seven None is = omega (arith, is)
+    no_seven (Some name) is = not_small 7 7 refl (omega arith) (omega arith) is
 
 -- the status 7 comes where the words are no command
 pub usage_by : (command : Option Command) (file text : List ℕ) (found : Result Summary AuditFault) (boxes : Boxes) → IsStatusOf 7 (case_of command file text found boxes) → command ≡ None
@@ -479,8 +496,10 @@ unopened_is s (inl a) = (omega (arith, a), (λ at. omega (arith, a, at)), (λ at
 unopened_is s (inr a) = (omega (arith, a), (λ at. omega (arith, a, at)), (λ at. omega (arith, a, at)))
 
 -- a run has no status of a refusal
-run_refused : {shows : Shows} {wanted : Topology} {before : History} (verdict : Verdict) → Reported shows wanted before verdict ⊎ (verdict ≡ Refused Memory) → IsRefusalStatus (status_in verdict) → ⊥
-run_refused verdict (inl v) u = not_small (status_in verdict) (status_in verdict) refl (refusal_is (status_in verdict) u).0 (few_of v)
+run_refused : {shows : Shows} {live : Option (List ℕ)} {wanted : Topology} {before : History} (verdict : Verdict) → Reported shows live wanted before verdict ⊎ (verdict ≡ Refused Memory) → IsRefusalStatus (status_in verdict) → ⊥
+run_refused verdict (inl v) u =
+    let r = refusal_is (status_in verdict) u in
+    not_small (status_in verdict) (status_in verdict) refl r.0 r.3 (few_of v)
 run_refused verdict (inr is) u = (refusal_is (status_in verdict) u).2 (ap status_in is)
 
 pub none_ran : (case : Case) (fails : List ℕ → Type 0) (topology : Option Topology) (before : History) (verdict : Verdict) → Outcome case fails topology before verdict
@@ -499,15 +518,15 @@ none_ran (Audits name summary wanted) fails topology before verdict (inr r) u =
     let counted : status_in verdict ≡ 0 = ap status_in r.counted in
     absurd (omega (arith, counted, (refusal_is (status_in verdict) u).0))
 none_ran (Rejects name fault wanted) fails topology before verdict (inr r) u = (r.no_topology, r.no_step)
-none_ran (Runs shows feeding wanted) fails topology before verdict (inr r) u = absurd (run_refused verdict (ran verdict shows wanted before r.comes_to) u)
+none_ran (Runs shows live feeding wanted) fails topology before verdict (inr r) u = absurd (run_refused verdict (ran verdict shows live wanted before r.comes_to) u)
 
 -- ---- the outside
 
 -- where nothing was opened, nothing was given back
-run_opened : (shows : Shows) (feeding : Feeding) (wanted : Topology) (fails : List ℕ → Type 0) (topology : Option Topology) (before : History) (verdict : Verdict) → Outcome (Runs shows feeding wanted) fails topology before verdict
+run_opened : (shows : Shows) (live : Option (List ℕ)) (feeding : Feeding) (wanted : Topology) (fails : List ℕ → Type 0) (topology : Option Topology) (before : History) (verdict : Verdict) → Outcome (Runs shows live feeding wanted) fails topology before verdict
     → IsUnopenedStatus (status_in verdict) → ⊥
-run_opened shows feeding wanted fails topology before verdict (inl e) u = nine_or_five (status_in verdict) (status_in verdict) (early_at fails topology before verdict e) refl (unopened_is (status_in verdict) u).2 (unopened_is (status_in verdict) u).1
-run_opened shows feeding wanted fails topology before verdict (inr r) u = run_refused verdict (ran verdict shows wanted before r.comes_to) (inr u)
+run_opened shows live feeding wanted fails topology before verdict (inl e) u = nine_or_five (status_in verdict) (status_in verdict) (early_at fails topology before verdict e) refl (unopened_is (status_in verdict) u).2 (unopened_is (status_in verdict) u).1
+run_opened shows live feeding wanted fails topology before verdict (inr r) u = run_refused verdict (ran verdict shows live wanted before r.comes_to) (inr u)
 
 audit_opened : (name : List ℕ) (summary : Summary) (wanted : Topology) (fails : List ℕ → Type 0) (topology : Option Topology) (before : History) (verdict : Verdict) → Outcome (Audits name summary wanted) fails topology before verdict
     → IsUnopenedStatus (status_in verdict) → ⊥
@@ -522,90 +541,178 @@ reject_opened name fault wanted fails topology before verdict (inl e) u = nine_o
 reject_opened name fault wanted fails topology before verdict (inr r) (inl six) = fault_not fault 6 (omega arith) (omega arith) (sym (ap status_in r.refused) ∙ six)
 reject_opened name fault wanted fails topology before verdict (inr r) (inr seven) = fault_not fault 7 (omega arith) (omega arith) (sym (ap status_in r.refused) ∙ seven)
 
-pub not_opened : (case : Case) (fails : List ℕ → Type 0) (memory : Type 0) (calls : List (EdgeKind × List ℕ)) (topology : Option Topology) (before : History) (verdict : Verdict) (old new : OutsideSeen)
-    → Outcome case fails topology before verdict → IsUnopenedStatus (status_in verdict) → IsOutsideOf memory calls topology before case old new → IsUntouched old new
-not_opened NoCommand fails memory calls topology before verdict old new o u out = out
-not_opened (BadTopology fault) fails memory calls topology before verdict old new o u out = out
-not_opened (TooFew shortage) fails memory calls topology before verdict old new o u out = out
-not_opened (Checks wanted) fails memory calls topology before verdict old new o u out = out
-not_opened (Upgrades file text wanted) fails memory calls topology before verdict old new o u out = out
-not_opened (Audits name summary wanted) fails memory calls topology before verdict old new o u out = absurd (audit_opened name summary wanted fails topology before verdict o u)
-not_opened (Rejects name fault wanted) fails memory calls topology before verdict old new o u out = absurd (reject_opened name fault wanted fails topology before verdict o u)
-not_opened (Runs shows feeding wanted) fails memory calls topology before verdict old new o u out = absurd (run_opened shows feeding wanted fails topology before verdict o u)
+pub not_opened : (case : Case) (fails : List ℕ → Type 0) (memory : Type 0) (says : Bool → Type 0) (calls : List (EdgeKind × List ℕ)) (topology : Option Topology) (before : History) (verdict : Verdict) (old new : OutsideSeen)
+    → Outcome case fails topology before verdict → IsUnopenedStatus (status_in verdict) → IsOutsideOf memory says calls topology before case old new → IsUntouched old new
+not_opened NoCommand fails memory says calls topology before verdict old new o u out = out
+not_opened (BadTopology fault) fails memory says calls topology before verdict old new o u out = out
+not_opened (TooFew shortage) fails memory says calls topology before verdict old new o u out = out
+not_opened (Checks wanted) fails memory says calls topology before verdict old new o u out = out
+not_opened (Upgrades file text wanted) fails memory says calls topology before verdict old new o u out = out
+not_opened (Audits name summary wanted) fails memory says calls topology before verdict old new o u out = absurd (audit_opened name summary wanted fails topology before verdict o u)
+not_opened (Rejects name fault wanted) fails memory says calls topology before verdict old new o u out = absurd (reject_opened name fault wanted fails topology before verdict o u)
+not_opened (Runs shows live feeding wanted) fails memory says calls topology before verdict old new o u out = absurd (run_opened shows live feeding wanted fails topology before verdict o u)
 
-used_as : (feeds : Feeds) (memory wanting : Type 0) → (memory → wanting) → (wanted : Topology) (before : History) (old new : OutsideSeen) → HasUsed feeds memory wanted before old new → HasUsed feeds wanting wanted before old new
-used_as feeds memory wanting so wanted before old new used = record {
+used_as : (feeds : Feeds) (live : Option (List ℕ)) (memory wanting : Type 0) (says said : Bool → Type 0) → (memory → wanting) → ((b : Bool) → says b → said b) → (wanted : Topology) (before : History) (old new : OutsideSeen)
+    → HasUsed feeds live memory says wanted before old new → HasUsed feeds live wanting said wanted before old new
+used_as feeds live memory wanting says said so too wanted before old new used = record {
   whole = used.whole;
   wanting = λ none. so (used.wanting none);
+  unfed = used.unfed;
+  said = too used.unfed used.said;
   outside = used.outside;
   time = used.time;
   idle = used.idle;
   boxes = used.boxes;
 }
 
-not_begun_as : (feeds : Feeds) (memory wanting : Type 0) → (memory → wanting) → (calls : List (EdgeKind × List ℕ)) (wanted : Topology) (old new : OutsideSeen) → HasNotBegun feeds memory calls wanted old new → HasNotBegun feeds wanting calls wanted old new
-not_begun_as feeds memory wanting so calls wanted old new n = record { edges = by_edges n.edges; clock = n.clock; boxes = n.boxes }
+not_begun_as : (feeds : Feeds) (live : Option (List ℕ)) (memory wanting : Type 0) → (memory → wanting) → (calls : List (EdgeKind × List ℕ)) (wanted : Topology) (old new : OutsideSeen)
+    → HasNotBegun feeds live memory calls wanted old new → HasNotBegun feeds live wanting calls wanted old new
+not_begun_as feeds live memory wanting so calls wanted old new n = record { edges = by_edges n.edges; clock = n.clock; boxes = n.boxes }
   where
-    by_edges : (memory × IsBrokenOff feeds calls wanted old.edges new.edges) ⊎ IsGivenUp feeds calls wanted old.edges new.edges → (wanting × IsBrokenOff feeds calls wanted old.edges new.edges) ⊎ IsGivenUp feeds calls wanted old.edges new.edges
+    by_edges : (memory × IsBrokenOff feeds live calls wanted old.edges new.edges) ⊎ IsGivenUp feeds live calls wanted old.edges new.edges
+        → (wanting × IsBrokenOff feeds live calls wanted old.edges new.edges) ⊎ IsGivenUp feeds live calls wanted old.edges new.edges
     by_edges (inl m) = inl (so m.0, m.1)
     by_edges (inr given) = inr given
 
-run_or_not_as : (feeds : Feeds) (memory wanting : Type 0) → (memory → wanting) → (calls : List (EdgeKind × List ℕ)) (wanted : Topology) (topology : Option Topology) (before : History) (old new : OutsideSeen)
-    → HasRunOrNot feeds memory calls wanted topology before old new → HasRunOrNot feeds wanting calls wanted topology before old new
-run_or_not_as feeds memory wanting so calls wanted (Some topology) before old new r = used_as feeds memory wanting so wanted before old new r
-run_or_not_as feeds memory wanting so calls wanted None before old new r = not_begun_as feeds memory wanting so calls wanted old new r
+run_or_not_as : (feeds : Feeds) (live : Option (List ℕ)) (memory wanting : Type 0) (says said : Bool → Type 0) → (memory → wanting) → ((b : Bool) → says b → said b)
+    → (calls : List (EdgeKind × List ℕ)) (wanted : Topology) (topology : Option Topology) (before : History) (old new : OutsideSeen)
+    → HasRunOrNot feeds live memory says calls wanted topology before old new → HasRunOrNot feeds live wanting said calls wanted topology before old new
+run_or_not_as feeds live memory wanting says said so too calls wanted (Some topology) before old new r = used_as feeds live memory wanting says said so too wanted before old new r
+run_or_not_as feeds live memory wanting says said so too calls wanted None before old new r = not_begun_as feeds live memory wanting so calls wanted old new r
 
--- what the outside is like, where memory that was wanting is known otherwise
-pub outside_as : (memory wanting : Type 0) → (memory → wanting) → (calls : List (EdgeKind × List ℕ)) (topology : Option Topology) (before : History) (case : Case) (old new : OutsideSeen)
-    → IsOutsideOf memory calls topology before case old new → IsOutsideOf wanting calls topology before case old new
-outside_as memory wanting so calls topology before NoCommand old new out = out
-outside_as memory wanting so calls topology before (BadTopology fault) old new out = out
-outside_as memory wanting so calls topology before (TooFew shortage) old new out = out
-outside_as memory wanting so calls topology before (Checks wanted) old new out = out
-outside_as memory wanting so calls topology before (Upgrades file text wanted) old new out = out
-outside_as memory wanting so calls topology before (Audits name summary wanted) old new out = out
-outside_as memory wanting so calls topology before (Rejects name fault wanted) old new out = out
-outside_as memory wanting so calls topology before (Runs shows feeding wanted) old new out = run_or_not_as (feeds_of feeding wanted) memory wanting so calls wanted topology before old new out
+-- what the outside is like, where memory that was wanting and a live sink that failed are known otherwise
+pub outside_as : (memory wanting : Type 0) (says said : Bool → Type 0) → (memory → wanting) → ((b : Bool) → says b → said b)
+    → (calls : List (EdgeKind × List ℕ)) (topology : Option Topology) (before : History) (case : Case) (old new : OutsideSeen)
+    → IsOutsideOf memory says calls topology before case old new → IsOutsideOf wanting said calls topology before case old new
+outside_as memory wanting says said so too calls topology before NoCommand old new out = out
+outside_as memory wanting says said so too calls topology before (BadTopology fault) old new out = out
+outside_as memory wanting says said so too calls topology before (TooFew shortage) old new out = out
+outside_as memory wanting says said so too calls topology before (Checks wanted) old new out = out
+outside_as memory wanting says said so too calls topology before (Upgrades file text wanted) old new out = out
+outside_as memory wanting says said so too calls topology before (Audits name summary wanted) old new out = out
+outside_as memory wanting says said so too calls topology before (Rejects name fault wanted) old new out = out
+outside_as memory wanting says said so too calls topology before (Runs shows live feeding wanted) old new out =
+    run_or_not_as (feeds_of feeding wanted) live memory wanting says said so too calls wanted topology before old new out
+
+-- ---- a live sink that failed
+
+-- a report is not under 12
+done_is : (case : Case) (fails : List ℕ → Type 0) (topology : Option Topology) (before : History) (texts : Texts) (s : ℕ) → Outcome case fails topology before (Done texts s) → s ≢ 12
+done_is case fails topology before texts s (inl e) at = nine_or_five s 12 (early_at fails topology before (Done texts s) e) at (λ x. cc) (λ x. cc)
+done_is NoCommand fails topology before texts s (inr r) at = let is : s ≡ 7 = ap status_in r.refused in omega (arith, is, at)
+done_is (BadTopology fault) fails topology before texts s (inr r) at = let is : s ≡ 6 = ap status_in r.refused in omega (arith, is, at)
+done_is (TooFew shortage) fails topology before texts s (inr r) at = let is : s ≡ 6 = ap status_in r.refused in omega (arith, is, at)
+done_is (Checks wanted) fails topology before texts s (inr r) at = let is : s ≡ 0 = ap status_in r.counted in omega (arith, is, at)
+done_is (Upgrades file text wanted) fails topology before texts s (inr r) at = let is : s ≡ 0 = ap status_in r.counted in omega (arith, is, at)
+done_is (Audits name summary wanted) fails topology before texts s (inr r) at = let is : s ≡ 0 = ap status_in r.counted in omega (arith, is, at)
+done_is (Rejects name fault wanted) fails topology before texts s (inr r) at = fault_not_twelve fault (sym (ap status_in r.refused) ∙ at)
+done_is (Runs shows live feeding wanted) fails topology before texts s (inr r) at = omega (arith, r.comes_to.status_is, status_few wanted before, at)
+
+-- what the status says of whether the live sink failed
+pub status_says : (case : Case) (fails : List ℕ → Type 0) (topology : Option Topology) (before : History) (verdict : Verdict) (status : ℕ) → Outcome case fails topology before verdict
+    → (status ≡ status_in verdict) ⊎ ((status ≡ 8) ⊎ (status ≡ 9)) → (verdict ≡ Refused Memory → status ≡ 9) → (unfed : Bool) → ShowsUnfed verdict unfed → SaysUnfed status unfed
+status_says case fails topology before (Done texts s) status o is wanting unfed shows =
+    subst (λ (b : Bool). SaysUnfed status b) (sym shows) (λ twelve. done_is case fails topology before texts s o (is_status status s 12 is twelve (λ x. cc) (λ x. cc)))
+status_says case fails topology before (Unfed texts line) status o is wanting unfed shows = subst (λ (b : Bool). SaysUnfed status b) (sym shows) is
+status_says case fails topology before (Refused Memory) status o is wanting Bool.true shows = inr (inr (wanting refl))
+status_says case fails topology before (Refused Memory) status o is wanting Bool.false shows = λ twelve. let nine : status ≡ 9 = wanting refl in omega (arith, nine, twelve)
+status_says case fails topology before (Refused Usage) status o is wanting unfed shows = absurd shows
+status_says case fails topology before (Refused (NoTopology fault)) status o is wanting unfed shows = absurd shows
+status_says case fails topology before (Refused (Stock shortage)) status o is wanting unfed shows = absurd shows
+status_says case fails topology before (Refused (Edge name)) status o is wanting unfed shows = absurd shows
+status_says case fails topology before (Refused (Audit fault)) status o is wanting unfed shows = absurd shows
+
+unfed_by : (feeds : Feeds) (name : List ℕ) (memory : Type 0) (says : Bool → Type 0) (wanted : Topology) (before : History) (old new : OutsideSeen) → (used : HasUsed feeds (Some name) memory says wanted before old new)
+    → (memory → ⊥) → used.unfed ≡ Bool.true → IsUnfedBy name new.edges
+unfed_by feeds name memory says wanted before old new used never is = by_last used.outside.sink.last
+  where
+    by_last : (new.edges.sinks_back ≡ used.outside.middle.sinks_back ++ (name, used.outside.sink.sink) ∷ []) ⊎ ((used.whole ≡ Bool.false) × (new.edges.sinks_back ≡ used.outside.middle.sinks_back)) → IsUnfedBy name new.edges
+    by_last (inl last) = record {
+      front = used.outside.middle.sinks_back;
+      sink = used.outside.sink.sink;
+      last = last;
+      fault = used.outside.sink.fault is;
+    }
+    by_last (inr none) = absurd (never (used.wanting none.0))
+
+unfed_run : (feeds : Feeds) (live : Option (List ℕ)) (wanted : Topology) (before : History) (verdict : Verdict) (texts : Texts) (old new : OutsideSeen) → HasUsed feeds live (verdict ≡ Refused Memory) (ShowsUnfed verdict) wanted before old new
+    → (verdict ≡ Refused Memory → ⊥) → IsUnfedWith live verdict texts → IsUnfed live new.edges
+unfed_run feeds (Some name) wanted before verdict texts old new used never u =
+    unfed_by feeds name (verdict ≡ Refused Memory) (ShowsUnfed verdict) wanted before old new used never
+    (subst (λ (v : Verdict). ShowsUnfed v used.unfed) u.1 used.said)
+unfed_run feeds None wanted before verdict texts old new used never u = let x : None ≡ Some u.0 = u.2 in cc
+
+-- under 12 the live sink failed
+pub unfed_in : (case : Case) (fails : List ℕ → Type 0) (calls : List (EdgeKind × List ℕ)) (topology : Option Topology) (before : History) (verdict : Verdict) (old new : OutsideSeen)
+    → Outcome case fails topology before verdict → IsOutsideOf (verdict ≡ Refused Memory) (ShowsUnfed verdict) calls topology before case old new → status_in verdict ≡ 12 → IsUnfedIn case new.edges
+unfed_in case fails calls topology before verdict old new (inl e) out at = absurd (nine_or_five (status_in verdict) 12 (early_at fails topology before verdict e) at (λ x. cc) (λ x. cc))
+unfed_in NoCommand fails calls topology before verdict old new (inr r) out at = absurd (not_both 7 12 (status_in verdict) (ap status_in r.refused) at (λ x. cc))
+unfed_in (BadTopology fault) fails calls topology before verdict old new (inr r) out at = absurd (not_both 6 12 (status_in verdict) (ap status_in r.refused) at (λ x. cc))
+unfed_in (TooFew shortage) fails calls topology before verdict old new (inr r) out at = absurd (not_both 6 12 (status_in verdict) (ap status_in r.refused) at (λ x. cc))
+unfed_in (Checks wanted) fails calls topology before verdict old new (inr r) out at = absurd (not_both 0 12 (status_in verdict) (ap status_in r.counted) at (λ x. cc))
+unfed_in (Upgrades file text wanted) fails calls topology before verdict old new (inr r) out at = absurd (not_both 0 12 (status_in verdict) (ap status_in r.counted) at (λ x. cc))
+unfed_in (Audits name summary wanted) fails calls topology before verdict old new (inr r) out at = absurd (not_both 0 12 (status_in verdict) (ap status_in r.counted) at (λ x. cc))
+unfed_in (Rejects name fault wanted) fails calls topology before verdict old new (inr r) out at = absurd (fault_not_twelve fault (sym (ap status_in r.refused) ∙ at))
+unfed_in (Runs shows live feeding wanted) fails calls topology before verdict old new (inr r) out at = by_run (ran verdict shows live wanted before r.comes_to)
+  where
+    used : HasUsed (feeds_of feeding wanted) live (verdict ≡ Refused Memory) (ShowsUnfed verdict) wanted before old new
+    used = rw r.own at out
+
+    by_which : (v : Reported shows live wanted before verdict) → IsDone wanted before verdict v.texts ⊎ IsUnfedWith live verdict v.texts → IsUnfed live new.edges
+    by_which v (inl d) = absurd (omega (arith, done_few wanted before verdict v.texts d, at))
+    by_which v (inr u) = unfed_run (feeds_of feeding wanted) live wanted before verdict v.texts old new used (is_reported v) u
+
+    by_run : Reported shows live wanted before verdict ⊎ (verdict ≡ Refused Memory) → IsUnfed live new.edges
+    by_run (inl v) = by_which v v.which
+    by_run (inr is) = absurd (not_both 9 12 (status_in verdict) (ap status_in is) at (λ x. cc))
 
 -- ---- a text that was lost
 
-refusal_lost : (verdict : Verdict) (refusal : Refusal) (reported out_fault quiet refused err_fault : Type 0) → verdict ≡ Refused refusal → refused → FaultBy verdict out_fault err_fault
-    → Lost reported out_fault quiet refused err_fault
-refusal_lost verdict refusal reported out_fault quiet refused err_fault is why fault = inr (why, rw is at fault)
+refusal_lost : (verdict : Verdict) (refusal : Refusal) (reported out_fault quiet unfed refused err_fault : Type 0) → verdict ≡ Refused refusal → refused → FaultBy verdict out_fault err_fault
+    → Lost reported out_fault quiet unfed refused err_fault
+refusal_lost verdict refusal reported out_fault quiet unfed refused err_fault is why fault = inr (inr (why, rw is at fault))
 
 refused_case : (fails : List ℕ → Type 0) (topology : Option Topology) (before : History) (case : Case) → topology ≡ None → before ≡ [] → IsRefusal case → IsRefused fails topology before case
 refused_case fails topology before case none empty is = record { no_topology = none; no_step = empty; why = inl is }
 
-pub lost_by : (case : Case) (fails : List ℕ → Type 0) (topology : Option Topology) (before : History) (verdict : Verdict) (out_fault quiet err_fault : Type 0) → verdict ≢ Refused Memory
-    → Outcome case fails topology before verdict → FaultBy verdict out_fault err_fault → QuietBy verdict quiet → Lost (IsReportOf topology before case) out_fault quiet (IsRefused fails topology before case) err_fault
-lost_by case fails topology before verdict out_fault quiet err_fault found (inl e) fault q = by_why none.why
+pub lost_by : (case : Case) (fails : List ℕ → Type 0) (topology : Option Topology) (before : History) (verdict : Verdict) (out_fault quiet unfed err_fault : Type 0) → verdict ≢ Refused Memory → (status_in verdict ≡ 12 → unfed)
+    → Outcome case fails topology before verdict → FaultBy verdict out_fault err_fault → QuietBy verdict quiet → Lost (IsReportOf topology before case) out_fault quiet unfed (IsRefused fails topology before case) err_fault
+lost_by case fails topology before verdict out_fault quiet unfed err_fault found so (inl e) fault q = by_why none.why
   where
     none : Early fails topology before verdict
     none = early fails topology before verdict e
 
-    by_why : (verdict ≡ Refused Memory) ⊎ Fails fails verdict → Lost (IsReportOf topology before case) out_fault quiet (IsRefused fails topology before case) err_fault
+    by_why : (verdict ≡ Refused Memory) ⊎ Fails fails verdict → Lost (IsReportOf topology before case) out_fault quiet unfed (IsRefused fails topology before case) err_fault
     by_why (inl is) = absurd (found is)
     by_why (inr f) =
-        refusal_lost verdict (Edge f.name) (IsReportOf topology before case) out_fault quiet (IsRefused fails topology before case) err_fault f.is
+        refusal_lost verdict (Edge f.name) (IsReportOf topology before case) out_fault quiet unfed (IsRefused fails topology before case) err_fault f.is
         (record { no_topology = none.no_topology; no_step = none.no_step; why = inr (f.name, f.so) }) fault
-lost_by NoCommand fails topology before verdict out_fault quiet err_fault found (inr r) fault q =
-    refusal_lost verdict Usage _ out_fault quiet (IsRefused fails topology before NoCommand) err_fault r.refused (refused_case fails topology before NoCommand r.no_topology r.no_step tt) fault
-lost_by (BadTopology f) fails topology before verdict out_fault quiet err_fault found (inr r) fault q =
-    refusal_lost verdict (NoTopology f) _ out_fault quiet (IsRefused fails topology before (BadTopology f)) err_fault r.refused (refused_case fails topology before (BadTopology f) r.no_topology r.no_step tt) fault
-lost_by (TooFew shortage) fails topology before verdict out_fault quiet err_fault found (inr r) fault q =
-    refusal_lost verdict (Stock shortage) _ out_fault quiet (IsRefused fails topology before (TooFew shortage)) err_fault r.refused (refused_case fails topology before (TooFew shortage) r.no_topology r.no_step tt) fault
-lost_by (Checks wanted) fails topology before verdict out_fault quiet err_fault found (inr r) fault q =
+lost_by NoCommand fails topology before verdict out_fault quiet unfed err_fault found so (inr r) fault q =
+    refusal_lost verdict Usage _ out_fault quiet unfed (IsRefused fails topology before NoCommand) err_fault r.refused (refused_case fails topology before NoCommand r.no_topology r.no_step tt) fault
+lost_by (BadTopology f) fails topology before verdict out_fault quiet unfed err_fault found so (inr r) fault q =
+    refusal_lost verdict (NoTopology f) _ out_fault quiet unfed (IsRefused fails topology before (BadTopology f)) err_fault r.refused (refused_case fails topology before (BadTopology f) r.no_topology r.no_step tt) fault
+lost_by (TooFew shortage) fails topology before verdict out_fault quiet unfed err_fault found so (inr r) fault q =
+    refusal_lost verdict (Stock shortage) _ out_fault quiet unfed (IsRefused fails topology before (TooFew shortage)) err_fault r.refused (refused_case fails topology before (TooFew shortage) r.no_topology r.no_step tt) fault
+lost_by (Checks wanted) fails topology before verdict out_fault quiet unfed err_fault found so (inr r) fault q =
     inl (record { status = 0; end_of = (refl, r.own, r.no_step) }, rw r.counted at fault, rw r.counted at q)
-lost_by (Upgrades file text wanted) fails topology before verdict out_fault quiet err_fault found (inr r) fault q =
+lost_by (Upgrades file text wanted) fails topology before verdict out_fault quiet unfed err_fault found so (inr r) fault q =
     inl (record { status = 0; end_of = (refl, r.own, r.no_step, r.upgrade) }, rw r.counted at fault, rw r.counted at q)
-lost_by (Audits name summary wanted) fails topology before verdict out_fault quiet err_fault found (inr r) fault q =
+lost_by (Audits name summary wanted) fails topology before verdict out_fault quiet unfed err_fault found so (inr r) fault q =
     inl (record { status = 0; end_of = (refl, r.own, r.no_step) }, rw r.counted at fault, rw r.counted at q)
-lost_by (Rejects name f wanted) fails topology before verdict out_fault quiet err_fault found (inr r) fault q =
-    refusal_lost verdict (Audit f) _ out_fault quiet (IsRefused fails topology before (Rejects name f wanted)) err_fault r.refused (refused_case fails topology before (Rejects name f wanted) r.no_topology r.no_step tt) fault
-lost_by (Runs shows feeding wanted) fails topology before verdict out_fault quiet err_fault found (inr r) fault q = by_run (ran verdict shows wanted before r.comes_to)
+lost_by (Rejects name f wanted) fails topology before verdict out_fault quiet unfed err_fault found so (inr r) fault q =
+    refusal_lost verdict (Audit f) _ out_fault quiet unfed (IsRefused fails topology before (Rejects name f wanted)) err_fault r.refused (refused_case fails topology before (Rejects name f wanted) r.no_topology r.no_step tt) fault
+lost_by (Runs shows live feeding wanted) fails topology before verdict out_fault quiet unfed err_fault found so (inr r) fault q = by_run (ran verdict shows live wanted before r.comes_to)
   where
-    by_run : Reported shows wanted before verdict ⊎ (verdict ≡ Refused Memory) → Lost (IsReportOf topology before (Runs shows feeding wanted)) out_fault quiet (IsRefused fails topology before (Runs shows feeding wanted)) err_fault
-    by_run (inl v) = inl (record { status = v.status; end_of = (r.own, v.report.ended) }, rw v.is at fault, rw v.is at q)
+    report : Reported shows live wanted before verdict → IsReportOf topology before (Runs shows live feeding wanted)
+    report v = record { status = status_in verdict; end_of = (r.own, ended_of v) }
+
+    by_which : (v : Reported shows live wanted before verdict) → IsDone wanted before verdict v.texts ⊎ IsUnfedWith live verdict v.texts
+        → Lost (IsReportOf topology before (Runs shows live feeding wanted)) out_fault quiet unfed (IsRefused fails topology before (Runs shows live feeding wanted)) err_fault
+    by_which v (inl d) = inl (report v, rw d.1 at fault, rw d.1 at q)
+    by_which v (inr u) = inr (inl (report v, so (ap status_in u.1), rw u.1 at fault))
+
+    by_run : Reported shows live wanted before verdict ⊎ (verdict ≡ Refused Memory) → Lost (IsReportOf topology before (Runs shows live feeding wanted)) out_fault quiet unfed (IsRefused fails topology before (Runs shows live feeding wanted)) err_fault
+    by_run (inl v) = by_which v v.which
     by_run (inr is) = absurd (found is)
 
 -- ---- the calls
@@ -628,6 +735,7 @@ up_to calls asked asked' front rest call parts is =
 pub asks : (case : Case) (told : Bool) (calls asked asked' : List (EdgeKind × List ℕ)) (fault : Type 0) (topology : Option Topology) (before : History) (verdict : Verdict)
     → Outcome case (FailsAt told calls asked asked' fault) topology before verdict → IsTrue told → AskedBy verdict calls asked asked' → Asks calls asked asked'
 asks case told calls asked asked' fault topology before (Done texts s) o t a = all_asked calls asked asked' a
+asks case told calls asked asked' fault topology before (Unfed texts line) o t a = all_asked calls asked asked' a
 asks case told calls asked asked' fault topology before (Refused Memory) o t a = a
 asks case told calls asked asked' fault topology before (Refused Usage) o t a = all_asked calls asked asked' a
 asks case told calls asked asked' fault topology before (Refused (NoTopology f)) o t a = all_asked calls asked asked' a
@@ -639,6 +747,7 @@ asks case told calls asked asked' fault topology before (Refused (Edge name)) o 
 
 pub asks_all : (verdict : Verdict) (calls asked asked' : List (EdgeKind × List ℕ)) → status_in verdict ≢ 5 → status_in verdict ≢ 9 → AskedBy verdict calls asked asked' → asked' ≡ asked ++ calls
 asks_all (Done texts s) calls asked asked' a b is = is
+asks_all (Unfed texts line) calls asked asked' a b is = is
 asks_all (Refused Memory) calls asked asked' a b is = absurd (b refl)
 asks_all (Refused Usage) calls asked asked' a b is = is
 asks_all (Refused (NoTopology f)) calls asked asked' a b is = is

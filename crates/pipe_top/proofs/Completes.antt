@@ -12,8 +12,7 @@ use Rattle.pipe_types.specs.Stages.{spec_of, spec_in}
 use Rattle.pipe_types.specs.declared.numbers.StageNo.{StageNo}
 use Rattle.pipe_types.specs.declared.step.SourceHow.{SourceHow}
 use Rattle.pipe_types.specs.declared.step.SourceHow.TheVariants as how
-use Rattle.pipe_types.specs.declared.topology.Role.{Role}
-use Rattle.pipe_types.specs.declared.topology.Role.TheVariants.{Producer, Processor, Supervisor, Batcher, BatchProcessor}
+use Rattle.pipe_types.specs.declared.topology.Role.TheVariants.{Producer}
 use Rattle.pipe_types.specs.declared.topology.StageSpec.{StageSpec}
 use Rattle.pipe_types.specs.declared.topology.Topology.{Topology}
 use Rattle.pipe_model.specs.History.{History}
@@ -21,12 +20,12 @@ use Rattle.pipe_model.specs.Legal.{happened, is_drain, is_halt, has_role, is_pro
 use Rattle.pipe_model.specs.Outside.{fed, source_end}
 use Rattle.pipe_edges.specs.Paces.{Pace}
 use Rattle.pipe_edges.specs.declared.edges.EdgeKind.{EdgeKind}
-use Rattle.pipe_edges.specs.declared.edges.EdgeKind.TheVariants.{Source}
-use Rattle.journal_texts.specs.Report.{places, is_fault, is_lost, is_failed, is_source_fault}
+use Rattle.journal_texts.specs.Acks.{ack_text}
+use Rattle.journal_texts.specs.Report.{places, is_fault, is_lost, is_failed, is_source_fault, status_of}
 use Rattle.source_lines.specs.Cut.{AreLinesBeforeLong, HasShortLines}
 use Rattle.line_merge.specs.Items.{lines_from}
 use Rattle.pipe_laws.specs.Read.{HasNoControl}
-use Rattle.stage_bodies.specs.Seen.{SourceSeen, SourcesSeen, OneSource, ManySources, sources_out, LineSeen, BodySeen}
+use Rattle.stage_bodies.specs.Seen.{SourceSeen, SourcesSeen, OneSource, ManySources, sources_out, SinkSeen, LineSeen, BodySeen}
 use Rattle.stage_bodies.specs.Jobs.{Both}
 use Rattle.stage_bodies.specs.Posts.{place_at}
 use Rattle.stage_laws.proofs.Groups.{fields_of}
@@ -38,23 +37,23 @@ use Rattle.edge_names.specs.Opened.{supplied_in}
 use Rattle.edge_names.specs.Gates.{AreInner, IsInner, pace_of_stage}
 use Rattle.edge_names.specs.Supplies.{Feeds, Feed, Opened, Merged, Made, Fed, at_paces, by_name, fed as supplied_feed, feed_by, feed_of_names, feed_of_text, given_back, names_of, supplied, supplied_by, under_names}
 use Rattle.edge_names.specs.Named.{GivesSource}
-use Rattle.edge_names.specs.Controls.{named_control, first_sources}
+use Rattle.edge_names.specs.Controls.{named_control, first_sinks, first_sources}
 use Rattle.edge_names.specs.Returned.{feed_in, named_source, sources_of}
-use Rattle.pipe_run.specs.Outside.{HasControl, HasItsBytes, IsFedRead, IsOutside, ReadsMerge, ReadsSource}
+use Rattle.pipe_run.specs.Outside.{HasControl, HasItsBytes, IsFedRead, IsOutside, IsOutsideWith, ReadsMerge, ReadsSource}
 use Rattle.pipe_run.specs.Whole.{HasCome}
 use Rattle.run_verdicts.specs.Verdicts.{status_in}
-use Rattle.pipe_top.specs.Runs.{OutsideSeen, IsRun, IsEnded, HasUsed, IsOutsideOf, IsFaultless, AreFaultless, IsReadWhole, IsComplete, IsCompleteIn, is_limit_drain, is_control_drain, is_idle_drain}
+use Rattle.pipe_top.specs.Runs.{OutsideSeen, IsRun, HasUsed, IsWellFed, IsWellFedIn, IsOutsideOf, IsFaultless, AreFaultless, IsReadWhole, IsComplete, IsCompleteIn, is_limit_drain, is_control_drain, is_idle_drain}
 use Rattle.pipe_top.specs.Cases.{Feeding, Named, Filed, MadeFrom, feeds_of, Case, NoCommand, NoTopology as BadTopology, TooFew, Checks, Upgrades, Audits, Rejects, Runs}
-use Rattle.pipe_top.specs.Flows.{IsFew, Outcome}
+use Rattle.pipe_top.specs.Flows.{IsFew, Outcome, ShowsUnfed}
 use Rattle.run_verdicts.specs.declared.verdict.Refusal.TheVariants.{Memory}
 use Rattle.run_verdicts.specs.declared.verdict.Texts.{Texts}
 use Rattle.run_verdicts.specs.declared.verdict.Verdict.{Verdict}
-use Rattle.run_verdicts.specs.declared.verdict.Verdict.TheVariants.{Refused, Done}
+use Rattle.run_verdicts.specs.declared.verdict.Verdict.TheVariants.{Refused}
 use Rattle.pipe_top.proofs.Drains.{HasCause, limited, ended, controlled, rested, drain_shows}
 use Rattle.pipe_top.proofs.Ends.{ControlEndsBadly, EndsBadly, ends_limited, ended_as, faults_show, never_limited, producer_inner}
 use Rattle.pipe_top.proofs.Longs.{not_long}
-use Rattle.pipe_top.proofs.Outcomes.{Fails, early, Reported, ran}
-use Rattle.pipe_top.proofs.Shares.{producer_is, share_read}
+use Rattle.pipe_top.proofs.Outcomes.{Fails, IsDone, IsUnfedWith, early, is_reported, Reported, ran}
+use Rattle.pipe_top.proofs.Shares.{middle_of, producer_is, share_read}
 use Rattle.pipe_top.proofs.Statuses.{gravest_small, clean_status}
 
 -- ---- the sources of a whole run
@@ -289,12 +288,12 @@ no_fault topology before sound run read fine = either (happened is_source_fault 
     either true e = absurd (by_end (faults_show topology before sound run.claims.legal e))
 
 -- a run that was reported
-pub ended_whole : (topology : Topology) (before : History) (status : ℕ) → IsSound topology → IsRun topology before → IsEnded topology before status → AreWellRead topology before → IsControlFine before → IsComplete topology before status
-ended_whole topology before status sound run end read fine = record {
-  status_is = inl (rw end.by_journal (rw (no_fault topology before sound run read fine)
+pub ended_whole : (topology : Topology) (before : History) (status : ℕ) → IsSound topology → IsRun topology before → HasCome topology before → status ≡ status_of topology before → AreWellRead topology before → IsControlFine before → IsComplete topology before status
+ended_whole topology before status sound run end by_journal read fine = record {
+  status_is = inl (rw by_journal (rw (no_fault topology before sound run read fine)
       (gravest_small (happened is_halt before) (list_any is_lost (places topology before)) (list_any is_failed (places topology before)))));
-  whole = λ other. by_end end.ended;
-  clean = λ other lossless pass. end.by_journal ∙ clean_status topology before (no_fault topology before sound run read fine) lossless pass;
+  whole = λ other. by_end end;
+  clean = λ other lossless pass. by_journal ∙ clean_status topology before (no_fault topology before sound run read fine) lossless pass;
 }
   where
     by_cause : HasCause topology before → IsReadWhole topology before ⊎ (IsTrue (happened is_limit_drain before) ⊎ (IsTrue (happened is_idle_drain before) ⊎ (IsTrue (happened is_control_drain before) ⊎ IsTrue (happened is_halt before))))
@@ -325,39 +324,66 @@ memory_or topology fails before verdict status is (inl memory) calm = wanting to
 memory_or topology fails before verdict status is (inr f) calm = absurd (calm f.name f.so)
 
 -- where memory was not wanting, all was used
-all_used : (feeds : Feeds) (memory : Type 0) (topology : Topology) (before : History) (old new : OutsideSeen) → HasUsed feeds memory topology before old new → (memory → ⊥) → IsOutside feeds true topology before old.edges new.edges
-all_used feeds memory topology before old new used never = by_whole used.whole used.wanting used.outside
+all_used : (feeds : Feeds) (live : Option (List ℕ)) (memory : Type 0) (says : Bool → Type 0) (topology : Topology) (before : History) (old new : OutsideSeen) → HasUsed feeds live memory says topology before old new → (memory → ⊥)
+    → (middle : EdgesSeen) × IsOutside feeds true topology before old.edges middle × (new.edges.sources_back ≡ middle.sources_back)
+all_used feeds live memory says topology before old new used never = by_whole used.whole used.wanting used.outside
   where
-    by_whole : (b : Bool) → (b ≡ false → memory) → IsOutside feeds b topology before old.edges new.edges → IsOutside feeds true topology before old.edges new.edges
-    by_whole true w outside = outside
+    by_whole : (b : Bool) → (b ≡ false → memory) → IsOutsideWith feeds b topology before live (ack_text topology before) used.unfed old.edges new.edges
+        → (middle : EdgesSeen) × IsOutside feeds true topology before old.edges middle × (new.edges.sources_back ≡ middle.sources_back)
+    by_whole true w outside = middle_of feeds true topology before live (ack_text topology before) used.unfed old.edges new.edges outside
     by_whole false w outside = absurd (never (w refl))
 
-done_is_no_refusal : (verdict : Verdict) (texts : Texts) (status : ℕ) → verdict ≡ Done texts status → verdict ≡ Refused Memory → ⊥
-done_is_no_refusal verdict texts status is memory = cc
+-- a live sink without a fault did not fail
+fed_by : (feeds : Feeds) (name : List ℕ) (memory : Type 0) (says : Bool → Type 0) (topology : Topology) (before : History) (old new : OutsideSeen) → (used : HasUsed feeds (Some name) memory says topology before old new) → (memory → ⊥)
+    → used.unfed ≡ true → IsWellFed (Some name) old.edges new.edges → ⊥
+fed_by feeds name memory says topology before old new used never is fed = by_last used.outside.sink.last
+  where
+    last_sink : List (List ℕ × SinkSeen)
+    last_sink = (name, used.outside.sink.sink) ∷ []
+
+    front : List (List ℕ × SinkSeen)
+    front = first_sinks feeds used.outside.outside.parts topology used.outside.outside.bodies
+
+    by_last : (new.edges.sinks_back ≡ used.outside.middle.sinks_back ++ last_sink) ⊎ ((used.whole ≡ false) × (new.edges.sinks_back ≡ used.outside.middle.sinks_back)) → ⊥
+    by_last (inl last) =
+        fed front used.outside.sink.sink
+        (last ∙ ap (λ (l : List (List ℕ × SinkSeen)). l ++ last_sink) used.outside.outside.sinks ∙ append_assoc old.edges.sinks_back front last_sink) (used.outside.sink.fault is)
+    by_last (inr none) = never (used.wanting none.0)
+
+fed_run : (feeds : Feeds) (live : Option (List ℕ)) (topology : Topology) (before : History) (verdict : Verdict) (texts : Texts) (old new : OutsideSeen) → HasUsed feeds live (verdict ≡ Refused Memory) (ShowsUnfed verdict) topology before old new
+    → (verdict ≡ Refused Memory → ⊥) → IsUnfedWith live verdict texts → IsWellFed live old.edges new.edges → ⊥
+fed_run feeds (Some name) topology before verdict texts old new used never u fed =
+    fed_by feeds name (verdict ≡ Refused Memory) (ShowsUnfed verdict) topology before old new used never (subst (λ (v : Verdict). ShowsUnfed v used.unfed) u.1 used.said) fed
+fed_run feeds None topology before verdict texts old new used never u fed = let x : None ≡ Some u.0 = u.2 in cc
 
 complete_in : (case : Case) (fails : List ℕ → Type 0) (calls : List (EdgeKind × List ℕ)) (topology : Option Topology) (before : History) (verdict : Verdict) (status : ℕ) (old new : OutsideSeen)
-    → status ≡ status_in verdict → ((name : List ℕ) → fails name → ⊥) → AreFaultless old.edges new.edges
-    → Outcome case fails topology before verdict → IsOutsideOf (verdict ≡ Refused Memory) calls topology before case old new
+    → status ≡ status_in verdict → ((name : List ℕ) → fails name → ⊥) → AreFaultless old.edges new.edges → IsWellFedIn case old.edges new.edges
+    → Outcome case fails topology before verdict → IsOutsideOf (verdict ≡ Refused Memory) (ShowsUnfed verdict) calls topology before case old new
     → IsCompleteIn before status case
-complete_in NoCommand fails calls topology before verdict status old new is calm fine o out = tt
-complete_in (BadTopology fault) fails calls topology before verdict status old new is calm fine o out = tt
-complete_in (TooFew shortage) fails calls topology before verdict status old new is calm fine o out = tt
-complete_in (Checks wanted) fails calls topology before verdict status old new is calm fine o out = tt
-complete_in (Upgrades file text wanted) fails calls topology before verdict status old new is calm fine o out = tt
-complete_in (Audits name summary wanted) fails calls topology before verdict status old new is calm fine o out = tt
-complete_in (Rejects name fault wanted) fails calls topology before verdict status old new is calm fine o out = tt
-complete_in (Runs shows feeding wanted) fails calls topology before verdict status old new is calm fine (inl e) out =
+complete_in NoCommand fails calls topology before verdict status old new is calm fine fed o out = tt
+complete_in (BadTopology fault) fails calls topology before verdict status old new is calm fine fed o out = tt
+complete_in (TooFew shortage) fails calls topology before verdict status old new is calm fine fed o out = tt
+complete_in (Checks wanted) fails calls topology before verdict status old new is calm fine fed o out = tt
+complete_in (Upgrades file text wanted) fails calls topology before verdict status old new is calm fine fed o out = tt
+complete_in (Audits name summary wanted) fails calls topology before verdict status old new is calm fine fed o out = tt
+complete_in (Rejects name fault wanted) fails calls topology before verdict status old new is calm fine fed o out = tt
+complete_in (Runs shows live feeding wanted) fails calls topology before verdict status old new is calm fine fed (inl e) out =
     memory_or wanted fails before verdict status is (early fails topology before verdict e).why calm
-complete_in (Runs shows feeding wanted) fails calls topology before verdict status old new is calm fine (inr r) out =
-    by_run (ran verdict shows wanted before r.comes_to)
+complete_in (Runs shows live feeding wanted) fails calls topology before verdict status old new is calm fine fed (inr r) out =
+    by_run (ran verdict shows live wanted before r.comes_to)
   where
-    used : HasUsed (feeds_of feeding wanted) (verdict ≡ Refused Memory) wanted before old new
+    used : HasUsed (feeds_of feeding wanted) live (verdict ≡ Refused Memory) (ShowsUnfed verdict) wanted before old new
     used = rw r.own at out
 
-    by_run : Reported shows wanted before verdict ⊎ (verdict ≡ Refused Memory) → IsComplete wanted before status
-    by_run (inl v) =
-        let whole : IsOutside (feeds_of feeding wanted) true wanted before old.edges new.edges = all_used (feeds_of feeding wanted) (verdict ≡ Refused Memory) wanted before old new used (done_is_no_refusal verdict v.texts v.status v.is) in
-        rw (is ∙ ap status_in v.is) (ended_whole wanted before v.status r.sound r.run v.report.ended (well_read feeding wanted before old.edges new.edges r.sound r.few whole fine) (control_fine (feeds_of feeding wanted) wanted before old.edges new.edges r.run.control whole fine))
+    by_which : (v : Reported shows live wanted before verdict) → IsDone wanted before verdict v.texts ⊎ IsUnfedWith live verdict v.texts → IsComplete wanted before status
+    by_which v (inl d) =
+        let whole = all_used (feeds_of feeding wanted) live (verdict ≡ Refused Memory) (ShowsUnfed verdict) wanted before old new used (is_reported v) in
+        let still : AreFaultless old.edges whole.0 = λ back same. fine back (whole.2 ∙ same) in
+        rw (is ∙ ap status_in d.1) (ended_whole wanted before d.0 r.sound r.run v.come d.2 (well_read feeding wanted before old.edges whole.0 r.sound r.few whole.1 still) (control_fine (feeds_of feeding wanted) wanted before old.edges whole.0 r.run.control whole.1 still))
+    by_which v (inr u) = absurd (fed_run (feeds_of feeding wanted) live wanted before verdict v.texts old new used (is_reported v) u fed)
+
+    by_run : Reported shows live wanted before verdict ⊎ (verdict ≡ Refused Memory) → IsComplete wanted before status
+    by_run (inl v) = by_which v v.which
     by_run (inr memory) = wanting wanted before status (is ∙ ap status_in memory)
 
 nine_complete : (case : Case) (before : History) (status : ℕ) → status ≡ 9 → IsCompleteIn before status case
@@ -368,15 +394,15 @@ nine_complete (Checks wanted) before status is = tt
 nine_complete (Upgrades file text wanted) before status is = tt
 nine_complete (Audits name summary wanted) before status is = tt
 nine_complete (Rejects name fault wanted) before status is = tt
-nine_complete (Runs shows feeding wanted) before status is = wanting wanted before status is
+nine_complete (Runs shows live feeding wanted) before status is = wanting wanted before status is
 
 pub complete_by : (case : Case) (fails : List ℕ → Type 0) (calls : List (EdgeKind × List ℕ)) (topology : Option Topology) (before : History) (verdict : Verdict) (status : ℕ) (old new : OutsideSeen)
-    → (status ≡ status_in verdict) ⊎ ((status ≡ 8) ⊎ (status ≡ 9)) → status ≢ 8 → ((name : List ℕ) → fails name → ⊥) → AreFaultless old.edges new.edges
-    → Outcome case fails topology before verdict → IsOutsideOf (verdict ≡ Refused Memory) calls topology before case old new
+    → (status ≡ status_in verdict) ⊎ ((status ≡ 8) ⊎ (status ≡ 9)) → status ≢ 8 → ((name : List ℕ) → fails name → ⊥) → AreFaultless old.edges new.edges → IsWellFedIn case old.edges new.edges
+    → Outcome case fails topology before verdict → IsOutsideOf (verdict ≡ Refused Memory) (ShowsUnfed verdict) calls topology before case old new
     → IsCompleteIn before status case
-complete_by case fails calls topology before verdict status old new (inl is) written calm fine o out = complete_in case fails calls topology before verdict status old new is calm fine o out
-complete_by case fails calls topology before verdict status old new (inr (inl is)) written calm fine o out = absurd (written is)
-complete_by case fails calls topology before verdict status old new (inr (inr is)) written calm fine o out = nine_complete case before status is
+complete_by case fails calls topology before verdict status old new (inl is) written calm fine fed o out = complete_in case fails calls topology before verdict status old new is calm fine fed o out
+complete_by case fails calls topology before verdict status old new (inr (inl is)) written calm fine fed o out = absurd (written is)
+complete_by case fails calls topology before verdict status old new (inr (inr is)) written calm fine fed o out = nine_complete case before status is
 
 -- where no write failed, no text was lost
 pub unwritten : {out err : Type 0} → out ⊎ err → ¬ out → ¬ err → ⊥

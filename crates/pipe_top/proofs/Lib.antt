@@ -3,6 +3,7 @@ pub mod Clauses
 pub mod Completes
 pub mod Drains
 pub mod Ends
+pub mod Feeding
 pub mod Longs
 pub mod Openings
 pub mod Outcomes

@@ -18,24 +18,26 @@ use Rattle.pipe_laws.proofs.Claims.{keeps_claims}
 use Rattle.edge_names.specs.Supplies.{Feed, at_paces}
 use Rattle.edge_names.specs.Controls.{run_calls}
 use Rattle.topology_needs.specs.declared.stock.Shortage.{Shortage}
+use Rattle.journal_texts.specs.Acks.{ack_text}
 use Rattle.pipe_run.specs.Boxes.{AreBoxesLeft, AreSameBoxes}
+use Rattle.pipe_run.specs.Live.{with_live}
 use Rattle.pipe_run.specs.Whole.{IsRunOf, HasFailed, HasWanted}
 use Rattle.pipe_top.specs.Cases.{Feeding, feeds_of, Runs, unless_short, opening_calls}
 use Rattle.pipe_top.specs.Runs.{OutsideSeen, IsUntouched, IsRun, FailsAt}
-use Rattle.pipe_top.specs.Flows.{AskedBy, ComesBy, IsFedBy, IsJudgement, refusal_in}
+use Rattle.pipe_top.specs.Flows.{AskedBy, ComesBy, IsFedBy, IsJudgement, ShowsUnfed, refusal_in}
 use Rattle.run_verdicts.specs.declared.verdict.Refusal.{Refusal}
 use Rattle.run_verdicts.specs.declared.verdict.Refusal.TheVariants.{Usage, Topology as NoTopology, Stock, Edge, Audit, Memory}
 use Rattle.run_verdicts.specs.declared.verdict.Shows.{Shows}
 use Rattle.run_verdicts.specs.declared.verdict.Verdict.{Verdict}
-use Rattle.run_verdicts.specs.declared.verdict.Verdict.TheVariants.{Refused, Done}
+use Rattle.run_verdicts.specs.declared.verdict.Verdict.TheVariants.{Refused, Done, Unfed}
 
 -- ---- refusals of a topology
 
 -- the edges are as they were
-pub refused_topology : (old new : OutsideSeen) (shows : Shows) (feeding : Feeding) (wanted : Topology) (short : Option Shortage) (refusal : Refusal) (topology : Option Topology) (before : History) (verdict : Verdict)
+pub refused_topology : (old new : OutsideSeen) (shows : Shows) (live : Option (List ℕ)) (feeding : Feeding) (wanted : Topology) (short : Option Shortage) (refusal : Refusal) (topology : Option Topology) (before : History) (verdict : Verdict)
     → refusal_in short ≡ Some refusal → verdict ≡ Refused refusal → (topology ≡ None) × (before ≡ []) → IsUntouched old new → new.edges.asked ≡ old.edges.asked → new.edges.told ≡ old.edges.told
-    → ComesBy old new (unless_short short (Runs shows feeding wanted)) (opening_calls (unless_short short (Runs shows feeding wanted))) topology before verdict
-refused_topology old new shows feeding wanted (Some s) refusal topology before verdict e is none untouched asked telling =
+    → ComesBy old new (unless_short short (Runs shows live feeding wanted)) (opening_calls (unless_short short (Runs shows live feeding wanted))) topology before verdict
+refused_topology old new shows live feeding wanted (Some s) refusal topology before verdict e is none untouched asked telling =
     let stock : verdict ≡ Refused (Stock s) = is ∙ ap (λ o. Refused (unwrap_or o (Stock s))) (sym e) in
     record {
       outcome = inr (record {
@@ -48,7 +50,7 @@ refused_topology old new shows feeding wanted (Some s) refusal topology before v
       same_telling = telling;
       audited = λ a b. tt;
     }
-refused_topology old new shows feeding wanted None refusal topology before verdict e is none untouched asked telling = cc
+refused_topology old new shows live feeding wanted None refusal topology before verdict e is none untouched asked telling = cc
 
 -- ---- runs
 
@@ -60,6 +62,7 @@ all_asked (Refused Memory) calls asked asked' is = record {
   is = is ∙ ap (λ x. asked ++ x) (sym (take_all (length calls) calls (omega arith)));
 }
 all_asked (Done texts status) calls asked asked' is = is
+all_asked (Unfed texts line) calls asked asked' is = is
 all_asked (Refused Usage) calls asked asked' is = is
 all_asked (Refused (NoTopology fault)) calls asked asked' is = is
 all_asked (Refused (Stock shortage)) calls asked asked' is = is
@@ -93,13 +96,13 @@ unrun topology sound = record {
 }
 
 -- what was named was opened
-pub ran : (old new : OutsideSeen) (shows : Shows) (feeding : Feeding) (feeds : StageSpec → Option Feed) (wanted : Topology) (whole : Bool) (core : Core) (topology : Option Topology) (before : History) (verdict : Verdict)
-    → IsFedBy feeding wanted feeds → core.topology ≡ wanted → Stands core → IsRunOf (at_paces wanted feeds) whole wanted core.journal.steps old.edges new.edges old.clock new.clock → IfSome wanted.rate (λ rate. KeepsRate rate core.journal.steps)
+pub ran : (old new : OutsideSeen) (shows : Shows) (live : Option (List ℕ)) (feeding : Feeding) (feeds : StageSpec → Option Feed) (wanted : Topology) (whole unfed : Bool) (core : Core) (topology : Option Topology) (before : History) (verdict : Verdict)
+    → IsFedBy feeding wanted feeds → core.topology ≡ wanted → Stands core → IsRunOf (at_paces wanted feeds) whole wanted core.journal.steps live (ack_text wanted core.journal.steps) unfed old.edges new.edges old.clock new.clock → IfSome wanted.rate (λ rate. KeepsRate rate core.journal.steps)
     → AreBoxesLeft whole wanted core.journal.steps old.boxes new.boxes
-    → topology ≡ Some core.topology → before ≡ core.journal.steps → IsJudgement verdict shows core.topology core.journal.steps → (whole ≡ false → verdict ≡ Refused Memory)
-    → ComesBy old new (Runs shows feeding wanted) (run_calls (feeds_of feeding wanted) wanted) topology before verdict
-ran old new shows feeding feeds wanted whole core topology before verdict fed same stands went rated boxes own steps judged wanting =
-    let r = subst (λ (f : StageSpec → Option Feed). IsRunOf (at_paces wanted f) whole wanted core.journal.steps old.edges new.edges old.clock new.clock) fed.is went in
+    → topology ≡ Some core.topology → before ≡ core.journal.steps → IsJudgement verdict shows live core.topology core.journal.steps → ShowsUnfed verdict unfed → (whole ≡ false → verdict ≡ Refused Memory)
+    → ComesBy old new (Runs shows live feeding wanted) (with_live live (run_calls (feeds_of feeding wanted) wanted)) topology before verdict
+ran old new shows live feeding feeds wanted whole unfed core topology before verdict fed same stands went rated boxes own steps judged said wanting =
+    let r = subst (λ (f : StageSpec → Option Feed). IsRunOf (at_paces wanted f) whole wanted core.journal.steps live (ack_text wanted core.journal.steps) unfed old.edges new.edges old.clock new.clock) fed.is went in
     let run : IsRun wanted core.journal.steps = rw same at (run_by core stands (rw same r.follows) (rw same r.control) (rw same rated)) in
     rw (own ∙ ap Some same, steps) (record {
       outcome = inr (record {
@@ -112,24 +115,26 @@ ran old new shows feeding feeds wanted whole core topology before verdict fed sa
       outside = record {
         whole = whole;
         wanting = wanting;
+        unfed = unfed;
+        said = said;
         outside = r.outside;
         time = r.time;
         idle = r.idle;
         boxes = boxes;
       };
-      asked_by = λ t. all_asked verdict (run_calls (feeds_of feeding wanted) wanted) old.edges.asked new.edges.asked (r.asks.asked t);
+      asked_by = λ t. all_asked verdict (with_live live (run_calls (feeds_of feeding wanted) wanted)) old.edges.asked new.edges.asked (r.asks.asked t);
       same_telling = r.asks.same_telling;
       audited = λ a b. tt;
     })
 
 -- a call by this name failed
-pub unopened : (old new : OutsideSeen) (shows : Shows) (feeding : Feeding) (feeds : StageSpec → Option Feed) (wanted : Topology) (name : List ℕ) (topology : Option Topology) (before : History) (verdict : Verdict)
-    → IsFedBy feeding wanted feeds → HasFailed (at_paces wanted feeds) wanted name old.edges new.edges → new.clock ≡ old.clock → AreSameBoxes old.boxes new.boxes
+pub unopened : (old new : OutsideSeen) (shows : Shows) (live : Option (List ℕ)) (feeding : Feeding) (feeds : StageSpec → Option Feed) (wanted : Topology) (name : List ℕ) (topology : Option Topology) (before : History) (verdict : Verdict)
+    → IsFedBy feeding wanted feeds → HasFailed (at_paces wanted feeds) wanted live name old.edges new.edges → new.clock ≡ old.clock → AreSameBoxes old.boxes new.boxes
     → verdict ≡ Refused (Edge name) → (topology ≡ None) × (before ≡ [])
-    → ComesBy old new (Runs shows feeding wanted) (run_calls (feeds_of feeding wanted) wanted) topology before verdict
-unopened old new shows feeding feeds wanted name topology before verdict fed away clock boxes is none =
-    let a = subst (λ (f : StageSpec → Option Feed). HasFailed (at_paces wanted f) wanted name old.edges new.edges) fed.is away in
-    let failed : FailsAt old.edges.told (run_calls (feeds_of feeding wanted) wanted) old.edges.asked new.edges.asked (Rose old.edges.faults new.edges.faults) name = record {
+    → ComesBy old new (Runs shows live feeding wanted) (with_live live (run_calls (feeds_of feeding wanted) wanted)) topology before verdict
+unopened old new shows live feeding feeds wanted name topology before verdict fed away clock boxes is none =
+    let a = subst (λ (f : StageSpec → Option Feed). HasFailed (at_paces wanted f) wanted live name old.edges new.edges) fed.is away in
+    let failed : FailsAt old.edges.told (with_live live (run_calls (feeds_of feeding wanted) wanted)) old.edges.asked new.edges.asked (Rose old.edges.faults new.edges.faults) name = record {
       kind = a.kind;
       front = a.front;
       rest = a.rest;
@@ -150,12 +155,12 @@ unopened old new shows feeding feeds wanted name topology before verdict fed awa
     })
 
 -- memory was wanting before all was opened
-pub unopened_memory : (old new : OutsideSeen) (shows : Shows) (feeding : Feeding) (feeds : StageSpec → Option Feed) (wanted : Topology) (topology : Option Topology) (before : History) (verdict : Verdict)
-    → IsFedBy feeding wanted feeds → HasWanted (at_paces wanted feeds) wanted old.edges new.edges → new.clock ≡ old.clock → AreSameBoxes old.boxes new.boxes
+pub unopened_memory : (old new : OutsideSeen) (shows : Shows) (live : Option (List ℕ)) (feeding : Feeding) (feeds : StageSpec → Option Feed) (wanted : Topology) (topology : Option Topology) (before : History) (verdict : Verdict)
+    → IsFedBy feeding wanted feeds → HasWanted (at_paces wanted feeds) wanted live old.edges new.edges → new.clock ≡ old.clock → AreSameBoxes old.boxes new.boxes
     → verdict ≡ Refused Memory → (topology ≡ None) × (before ≡ [])
-    → ComesBy old new (Runs shows feeding wanted) (run_calls (feeds_of feeding wanted) wanted) topology before verdict
-unopened_memory old new shows feeding feeds wanted topology before verdict fed away clock boxes is none =
-    let a = subst (λ (f : StageSpec → Option Feed). HasWanted (at_paces wanted f) wanted old.edges new.edges) fed.is away in
+    → ComesBy old new (Runs shows live feeding wanted) (with_live live (run_calls (feeds_of feeding wanted) wanted)) topology before verdict
+unopened_memory old new shows live feeding feeds wanted topology before verdict fed away clock boxes is none =
+    let a = subst (λ (f : StageSpec → Option Feed). HasWanted (at_paces wanted f) wanted live old.edges new.edges) fed.is away in
     rw (is, none.0) (record {
       outcome = inl none.1;
       outside = record {

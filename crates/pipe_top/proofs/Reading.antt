@@ -1,5 +1,5 @@
 -- What a call comes to after its topology file was read, or where none is.
-use Rattle.std.proofs.Common.{◌≡◌, ℕ, zero, suc, ◌≤◌, List, [], ◌∷◌, ◌++◌, take, Bool, Option, Some, None, Result, Ok, Err, refl, sym, ◌∙◌, ap, inl, inr, arith}
+use Rattle.std.proofs.Common.{◌≡◌, ℕ, zero, suc, ◌≤◌, List, [], ◌∷◌, ◌++◌, take, Bool, Option, Some, None, Result, Ok, Err, refl, sym, ◌∙◌, ap, subst, inl, inr, arith}
 use Rattle.std.specs.Prelude.{IsTrue}
 use Rattle.std.proofs.lemmas.List.{append-nil}
 use Rattle.std.proofs.Math.Seq.{take-nil}
@@ -17,9 +17,9 @@ use Rattle.run_verdicts.specs.declared.audits.AuditFault.{AuditFault}
 use Rattle.program_words.specs.Words.{Command, Flow, Check, Run, Gen, Upgrade, Audit as AuditOf}
 use Rattle.edge_names.specs.Seen.{EdgesSeen}
 use Rattle.topology_needs.specs.declared.stock.Boxes.{Boxes}
-use Rattle.pipe_top.specs.Cases.{Feeding, Named, Filed, MadeFrom, Case, Checks, Upgrades, audit_case, case_of, run_case, for_topology, report_alone, opening_calls, calls_of, file_name, IsNamedFile}
+use Rattle.pipe_top.specs.Cases.{Named, Filed, MadeFrom, Case, Checks, Upgrades, audit_case, case_of, run_case, for_topology, report_alone, opening_calls, calls_of, file_name, IsNamedFile}
 use Rattle.pipe_top.specs.Runs.{OutsideSeen, IsUntouched, Asks, FailsAt}
-use Rattle.pipe_top.specs.Flows.{IsCheckedOrNot, IsUpgraded, ComesBy, Came, ComesAudited, ReadsFile, ReadsTopology, ReadsUpgrade, UpgradesTo, IsTextOf, topology_beside, AskedFile}
+use Rattle.pipe_top.specs.Flows.{ShowsUnfed, IsCheckedOrNot, IsUpgraded, ComesBy, Came, ComesAudited, ReadsFile, ReadsTopology, ReadsUpgrade, UpgradesTo, topology_beside, AskedFile}
 use Rattle.pipe_top.specs.declared.file.Upgraded.{Upgraded}
 use Rattle.pipe_config.specs.Upgrade.{IsUpgrade}
 use Rattle.run_verdicts.specs.declared.verdict.Refusal.{Refusal}
@@ -76,8 +76,8 @@ unread old new go name (Edge other) topology before verdict is none same r =
     } in
     rw (is, none.0) (record {
       outcome = inl (none.1, failed);
-      outside = outside_of_none (Refused (Edge other) ≡ Refused Memory) calls before case old new same
-          (λ feeds wanted. inr (record { name = other; fails = failed; back = inl (refl, (same.sources, same.sinks)) }));
+      outside = outside_of_none (Refused (Edge other) ≡ Refused Memory) (ShowsUnfed (Refused (Edge other))) calls before case old new same
+          (λ feeds live wanted. inr (record { name = other; fails = failed; back = inl (refl, (same.sources, same.sinks)) }));
       asked_by = λ t. tt;
       same_telling = r.same_telling;
       audited = λ a b. absurd (a refl);
@@ -138,7 +138,7 @@ checked_only old new wanted topology before verdict (inr r) same asked telling =
 -- `flow` reads no file
 pub came_by_flow : (old new : OutsideSeen) (boxes : Boxes) (source prefix : List ℕ) (wanted : Topology) (topology : Option Topology) (before : History) (verdict : Verdict)
     → wanted ≡ flow_topology_of source prefix
-    → ComesBy old new (run_case boxes report_alone Named wanted) (opening_calls (run_case boxes report_alone Named wanted)) topology before verdict
+    → ComesBy old new (run_case boxes report_alone None Named wanted) (opening_calls (run_case boxes report_alone None Named wanted)) topology before verdict
     → Came old new (Some (Flow source prefix)) boxes topology before verdict
 came_by_flow old new boxes source prefix wanted topology before verdict is x = record {
   file = [];
@@ -291,43 +291,45 @@ audit_unread old new boxes journal name refusal topology before verdict r is non
   comes = unread old new (audit_case journal (Err Large)) name refusal topology before verdict is none (untouched old new name (Err refusal) r clock same) r;
 }
 
-pub run_came : (old : OutsideSeen) (middle : EdgesSeen) (new : OutsideSeen) (boxes : Boxes) (name : List ℕ) (workers : ℕ) (acks steps : Bool) (wanted : Topology) (topology : Option Topology) (before : History) (verdict : Verdict)
-    → ReadsFile old.edges middle name topology_of_file (Ok wanted)
-    → ComesBy (record old { edges = middle }) new (run_case boxes (record { steps = steps; acks = acks }) Filed wanted)
-    (opening_calls (run_case boxes (record { steps = steps; acks = acks }) Filed wanted)) topology before verdict
-    → Came old new (Some (Run name workers acks steps)) boxes topology before verdict
-run_came old middle new boxes name workers acks steps wanted topology before verdict r x = record {
+pub run_came : (old : OutsideSeen) (middle : EdgesSeen) (new : OutsideSeen) (boxes : Boxes) (name : List ℕ) (workers : ℕ) (acks steps : Bool) (live named : Option (List ℕ)) (wanted : Topology) (topology : Option Topology) (before : History) (verdict : Verdict)
+    → live ≡ named → ReadsFile old.edges middle name topology_of_file (Ok wanted)
+    → ComesBy (record old { edges = middle }) new (run_case boxes (record { steps = steps; acks = acks }) live Filed wanted)
+    (opening_calls (run_case boxes (record { steps = steps; acks = acks }) live Filed wanted)) topology before verdict
+    → Came old new (Some (Run name workers acks steps named)) boxes topology before verdict
+run_came old middle new boxes name workers acks steps live named wanted topology before verdict is r x = record {
   file = r.file;
   text = [];
   found = Err Large;
   is_file = r.is_file;
-  comes = loaded old middle new (run_case boxes (record { steps = steps; acks = acks }) Filed) name wanted topology before verdict r x;
+  comes = loaded old middle new (run_case boxes (record { steps = steps; acks = acks }) named Filed) name wanted topology before verdict r
+      (subst (λ (o : Option (List ℕ)). ComesBy (record old { edges = middle }) new (run_case boxes (record { steps = steps; acks = acks }) o Filed wanted)
+      (opening_calls (run_case boxes (record { steps = steps; acks = acks }) o Filed wanted)) topology before verdict) is x);
 }
 
-pub run_unread : (old new : OutsideSeen) (boxes : Boxes) (name : List ℕ) (workers : ℕ) (acks steps : Bool) (refusal : Refusal) (topology : Option Topology) (before : History) (verdict : Verdict)
+pub run_unread : (old new : OutsideSeen) (boxes : Boxes) (name : List ℕ) (workers : ℕ) (acks steps : Bool) (live : Option (List ℕ)) (refusal : Refusal) (topology : Option Topology) (before : History) (verdict : Verdict)
     → ReadsFile old.edges new.edges name topology_of_file (Err refusal) → verdict ≡ Refused refusal → (topology ≡ None) × (before ≡ [])
     → new.clock ≡ old.clock → new.boxes ≡ old.boxes
-    → Came old new (Some (Run name workers acks steps)) boxes topology before verdict
-run_unread old new boxes name workers acks steps refusal topology before verdict r is none clock same = record {
+    → Came old new (Some (Run name workers acks steps live)) boxes topology before verdict
+run_unread old new boxes name workers acks steps live refusal topology before verdict r is none clock same = record {
   file = r.file;
   text = [];
   found = Err Large;
   is_file = r.is_file;
-  comes = unread old new (run_case boxes (record { steps = steps; acks = acks }) Filed) name refusal topology before verdict is none
+  comes = unread old new (run_case boxes (record { steps = steps; acks = acks }) live Filed) name refusal topology before verdict is none
       (untouched old new name (Err refusal) r clock same) r;
 }
 
 pub gen_came : (old : OutsideSeen) (middle : EdgesSeen) (new : OutsideSeen) (boxes : Boxes) (seed count : ℕ) (name : List ℕ) (wanted : Topology) (topology : Option Topology) (before : History) (verdict : Verdict)
     → ReadsFile old.edges middle name topology_of_file (Ok wanted)
-    → ComesBy (record old { edges = middle }) new (run_case boxes report_alone (MadeFrom seed count) wanted)
-    (opening_calls (run_case boxes report_alone (MadeFrom seed count) wanted)) topology before verdict
+    → ComesBy (record old { edges = middle }) new (run_case boxes report_alone None (MadeFrom seed count) wanted)
+    (opening_calls (run_case boxes report_alone None (MadeFrom seed count) wanted)) topology before verdict
     → Came old new (Some (Gen seed count name)) boxes topology before verdict
 gen_came old middle new boxes seed count name wanted topology before verdict r x = record {
   file = r.file;
   text = [];
   found = Err Large;
   is_file = r.is_file;
-  comes = loaded old middle new (run_case boxes report_alone (MadeFrom seed count)) name wanted topology before verdict r x;
+  comes = loaded old middle new (run_case boxes report_alone None (MadeFrom seed count)) name wanted topology before verdict r x;
 }
 
 pub gen_unread : (old new : OutsideSeen) (boxes : Boxes) (seed count : ℕ) (name : List ℕ) (refusal : Refusal) (topology : Option Topology) (before : History) (verdict : Verdict)
@@ -339,7 +341,7 @@ gen_unread old new boxes seed count name refusal topology before verdict r is no
   text = [];
   found = Err Large;
   is_file = r.is_file;
-  comes = unread old new (run_case boxes report_alone (MadeFrom seed count)) name refusal topology before verdict is none
+  comes = unread old new (run_case boxes report_alone None (MadeFrom seed count)) name refusal topology before verdict is none
       (untouched old new name (Err refusal) r clock same) r;
 }
 

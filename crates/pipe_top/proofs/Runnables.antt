@@ -17,8 +17,8 @@ none_short : (short : Option Shortage) → refusal_in short ≡ None → short �
 none_short None e = refl
 none_short (Some s) e = cc
 
-pub case_is : (boxes : Boxes) (shows : Shows) (feeding : Feeding) (topology : Topology) → refusal_in (shortage_of topology boxes) ≡ None → run_case boxes shows feeding topology ≡ Runs shows feeding topology
-case_is boxes shows feeding topology e = rw (none_short (shortage_of topology boxes) e) refl
+pub case_is : (boxes : Boxes) (shows : Shows) (live : Option (List ℕ)) (feeding : Feeding) (topology : Topology) → refusal_in (shortage_of topology boxes) ≡ None → run_case boxes shows live feeding topology ≡ Runs shows live feeding topology
+case_is boxes shows live feeding topology e = rw (none_short (shortage_of topology boxes) e) refl
 
 -- there is a box for each post that needs one
 pub enough : (kinds : List Kind) (topology : Topology) → refusal_in (shortage_of topology (boxes_in kinds)) ≡ None → Suffices topology kinds

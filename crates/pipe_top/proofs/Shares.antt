@@ -1,9 +1,8 @@
 -- What a run over generated records read of them.
 use Rattle.std.proofs.Common.{◌≡◌, ◌-◌, ◌<◌, ◌≤◌, ◌^◌, ℕ, List, [], ◌∷◌, ◌++◌, length, Bool, true, Option, Some, None, refl, sym, ◌∙◌, ap, subst, inl, inr, arith}
-use Rattle.std.specs.Prelude.{◌⊎◌, All, ◌==◌, ◌&&◌, option_map}
+use Rattle.std.specs.Prelude.{All, ◌==◌, ◌&&◌, option_map}
 use Rattle.pipe_types.specs.Numbers.{post}
 use Rattle.pipe_types.specs.Sound.{IsSound, is_ordered, is_producer, may_begin, may_go_on, batchers, producers}
-use Rattle.pipe_types.specs.Stages.{spec_of}
 use Rattle.pipe_types.specs.declared.numbers.StageNo.{StageNo}
 use Rattle.pipe_types.specs.declared.topology.Role.{Role}
 use Rattle.pipe_types.specs.declared.topology.Role.TheVariants.{Producer, Processor, Supervisor, Batcher, BatchProcessor}
@@ -11,7 +10,7 @@ use Rattle.pipe_types.specs.declared.topology.StageSpec.{StageSpec}
 use Rattle.pipe_types.specs.declared.topology.Topology.{Topology}
 use Rattle.pipe_model.specs.History.{History}
 use Rattle.pipe_model.specs.Legal.{has_role, is_producer_role}
-use Rattle.pipe_edges.specs.Paces.{Pace, unpaced}
+use Rattle.pipe_edges.specs.Paces.{unpaced}
 use Rattle.pipe_edges.specs.Texts.{IsLine, ended}
 use Rattle.pipe_edges.specs.declared.edges.EdgeKind.{EdgeKind}
 use Rattle.source_lines.specs.Cut.{HasShortLines}
@@ -24,12 +23,12 @@ use Rattle.body_laws.proofs.Posts.{some_role}
 use Rattle.edge_names.specs.Seen.{EdgesSeen}
 use Rattle.edge_names.specs.Opened.{supplied_in}
 use Rattle.edge_names.specs.Gates.{pace_by, pace_of_stage}
-use Rattle.edge_names.specs.Supplies.{Fed, Made, Supplied, supplied, supplied_by}
+use Rattle.edge_names.specs.Supplies.{Feeds, Fed, Made, supplied, supplied_by}
 use Rattle.edge_names.specs.Returned.{feed_in}
 use Rattle.made_sources.specs.Records.{records_made}
-use Rattle.made_sources.specs.Feeds.{made_feeds}
 use Rattle.made_sources.proofs.Lines.{made_lines}
-use Rattle.pipe_run.specs.Outside.{IsFedRead, IsMadeRead, IsOutside, KeepsItsPace}
+use Rattle.journal_texts.specs.Acks.{ack_text}
+use Rattle.pipe_run.specs.Outside.{IsFedRead, IsMadeRead, IsOutside, IsOutsideWith, KeepsItsPace}
 use Rattle.pipe_run.proofs.Records.{reads_records, short_ended}
 use Rattle.pipe_top.specs.Cases.{Case, NoCommand, NoTopology as BadTopology, TooFew, Checks, Upgrades, Audits, Rejects, Runs, Feeding, Named, Filed, MadeFrom, feeds_of, origin_of}
 use Rattle.pipe_top.specs.Runs.{OutsideSeen, HasUsed, IsOutsideOf, ReadShares, AreShares, ReadsGenerated}
@@ -100,34 +99,41 @@ share_read seed count topology before old new whole sound few outside p role =
     there_is seed count topology before old whole p found.0 (option_map sources_out (feed_in (outside.bodies (place_at (post p 0))))) few
     (outside.used.sources p (pace_of_stage topology found.0) (Made (ended (share seed count topology p))) (ap (supplied_in (feeds_of (MadeFrom seed count) topology)) found.1 ∙ supply))
 
-shares_read : (seed count : ℕ) (memory : Type 0) (wanted : Topology) (before : History) (old new : OutsideSeen) → IsSound wanted → count < 2 ^ 32 → HasUsed (feeds_of (MadeFrom seed count) wanted) memory wanted before old new
-    → ReadShares memory seed count wanted before
-shares_read seed count memory wanted before old new sound few used = record {
+-- what a run used behind which its live sink was opened
+pub middle_of : (feeds : Feeds) (whole : Bool) (topology : Topology) (before : History) (live : Option (List ℕ)) (text : List ℕ) (unfed : Bool) (old new : EdgesSeen) → IsOutsideWith feeds whole topology before live text unfed old new
+    → (middle : EdgesSeen) × IsOutside feeds whole topology before old middle × (new.sources_back ≡ middle.sources_back)
+middle_of feeds whole topology before None text unfed old new outside = (new, outside, refl)
+middle_of feeds whole topology before (Some name) text unfed old new outside = (outside.middle, outside.outside, outside.sink.sources)
+
+shares_read : (seed count : ℕ) (live : Option (List ℕ)) (memory : Type 0) (says : Bool → Type 0) (wanted : Topology) (before : History) (old new : OutsideSeen) → IsSound wanted → count < 2 ^ 32
+    → HasUsed (feeds_of (MadeFrom seed count) wanted) live memory says wanted before old new → ReadShares memory seed count wanted before
+shares_read seed count live memory says wanted before old new sound few used = record {
   whole = used.whole;
   wanting = used.wanting;
   reads = λ p role.
-      let read = share_read seed count wanted before old.edges new.edges used.whole sound few used.outside p role in
+      let middle = middle_of (feeds_of (MadeFrom seed count) wanted) used.whole wanted before live (ack_text wanted before) used.unfed old.edges new.edges used.outside in
+      let read = share_read seed count wanted before old.edges middle.0 used.whole sound few middle.1 p role in
       reads_records used.whole wanted.rate before p (share seed count wanted p) read.source read.lines read.made read.plain;
 }
 
 -- ---- in the case of the call
 
-by_feeding : (feeding : Feeding) (memory : Type 0) (wanted : Topology) (before : History) (old new : OutsideSeen) → IsSound wanted → IsFew feeding → HasUsed (feeds_of feeding wanted) memory wanted before old new
-    → AreShares memory (Some wanted) feeding wanted before
-by_feeding Named memory wanted before old new sound few used = tt
-by_feeding Filed memory wanted before old new sound few used = tt
-by_feeding (MadeFrom seed count) memory wanted before old new sound few used = shares_read seed count memory wanted before old new sound few used
+by_feeding : (feeding : Feeding) (live : Option (List ℕ)) (memory : Type 0) (says : Bool → Type 0) (wanted : Topology) (before : History) (old new : OutsideSeen) → IsSound wanted → IsFew feeding
+    → HasUsed (feeds_of feeding wanted) live memory says wanted before old new → AreShares memory (Some wanted) feeding wanted before
+by_feeding Named live memory says wanted before old new sound few used = tt
+by_feeding Filed live memory says wanted before old new sound few used = tt
+by_feeding (MadeFrom seed count) live memory says wanted before old new sound few used = shares_read seed count live memory says wanted before old new sound few used
 
-pub generated_in : (case : Case) (fails : List ℕ → Type 0) (memory : Type 0) (calls : List (EdgeKind × List ℕ)) (topology : Option Topology) (before : History) (verdict : Verdict) (old new : OutsideSeen)
-    → Outcome case fails topology before verdict → IsOutsideOf memory calls topology before case old new → ReadsGenerated memory topology before case
-generated_in NoCommand fails memory calls topology before verdict old new o out = tt
-generated_in (BadTopology fault) fails memory calls topology before verdict old new o out = tt
-generated_in (TooFew shortage) fails memory calls topology before verdict old new o out = tt
-generated_in (Checks wanted) fails memory calls topology before verdict old new o out = tt
-generated_in (Upgrades file text wanted) fails memory calls topology before verdict old new o out = tt
-generated_in (Audits name summary wanted) fails memory calls topology before verdict old new o out = tt
-generated_in (Rejects name fault wanted) fails memory calls topology before verdict old new o out = tt
-generated_in (Runs shows feeding wanted) fails memory calls topology before verdict old new (inl e) out = rw (early fails topology before verdict e).no_topology tt
-generated_in (Runs shows feeding wanted) fails memory calls topology before verdict old new (inr r) out =
-    let used : HasUsed (feeds_of feeding wanted) memory wanted before old new = rw r.own at out in
-    rw r.own (by_feeding feeding memory wanted before old new r.sound r.few used)
+pub generated_in : (case : Case) (fails : List ℕ → Type 0) (memory : Type 0) (says : Bool → Type 0) (calls : List (EdgeKind × List ℕ)) (topology : Option Topology) (before : History) (verdict : Verdict) (old new : OutsideSeen)
+    → Outcome case fails topology before verdict → IsOutsideOf memory says calls topology before case old new → ReadsGenerated memory topology before case
+generated_in NoCommand fails memory says calls topology before verdict old new o out = tt
+generated_in (BadTopology fault) fails memory says calls topology before verdict old new o out = tt
+generated_in (TooFew shortage) fails memory says calls topology before verdict old new o out = tt
+generated_in (Checks wanted) fails memory says calls topology before verdict old new o out = tt
+generated_in (Upgrades file text wanted) fails memory says calls topology before verdict old new o out = tt
+generated_in (Audits name summary wanted) fails memory says calls topology before verdict old new o out = tt
+generated_in (Rejects name fault wanted) fails memory says calls topology before verdict old new o out = tt
+generated_in (Runs shows live feeding wanted) fails memory says calls topology before verdict old new (inl e) out = rw (early fails topology before verdict e).no_topology tt
+generated_in (Runs shows live feeding wanted) fails memory says calls topology before verdict old new (inr r) out =
+    let used : HasUsed (feeds_of feeding wanted) live memory says wanted before old new = rw r.own at out in
+    rw r.own (by_feeding feeding live memory says wanted before old new r.sound r.few used)

@@ -15,7 +15,6 @@ use Rattle.body_laws.specs.Passes.{all_pass}
 use Rattle.body_laws.proofs.Places.{none_failed}
 use Rattle.body_laws.proofs.Passing.{no_halt}
 use Rattle.journal_texts.specs.Report.{places, is_lost, is_failed, is_source_fault, gravest_of, status_of}
-use Rattle.pipe_top.specs.Runs.{IsEnded}
 
 -- without a fault of a source the status is at most 3
 pub gravest_small : (halted lost failed : Bool) → gravest_of false halted lost failed ≤ 3
@@ -31,10 +30,6 @@ gravest_few false halted lost failed = omega (arith, gravest_small halted lost f
 pub status_few : (topology : Topology) (before : History) → status_of topology before ≤ 4
 status_few topology before =
     gravest_few (happened is_source_fault before) (happened is_halt before) (list_any is_lost (places topology before)) (list_any is_failed (places topology before))
-
--- the status of a run that ended is at most 4
-pub ended_few : (topology : Topology) (before : History) (status : ℕ) → IsEnded topology before status → status ≤ 4
-ended_few topology before status end = omega (arith, end.by_journal, status_few topology before)
 
 -- ---- nothing lost and nothing failed
 

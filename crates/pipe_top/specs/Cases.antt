@@ -12,6 +12,7 @@ use Rattle.run_verdicts.specs.Judged.{Summary}
 use Rattle.program_words.specs.Words.{Command, Flow, Check, Run, Gen, Upgrade, Audit}
 use Rattle.edge_names.specs.Supplies.{Feeds, Feed, at_paces, by_name}
 use Rattle.edge_names.specs.Controls.{run_calls}
+use Rattle.pipe_run.specs.Live.{with_live}
 use Rattle.made_sources.specs.Feeds.{made_feeds}
 use Rattle.topology_needs.specs.declared.stock.Boxes.{Boxes}
 use Rattle.topology_needs.specs.declared.stock.Shortage.{Shortage}
@@ -37,7 +38,7 @@ feeds_of feeding topology = at_paces topology (origin_of feeding topology)
 
 -- the words are no command; the file is no topology; the stock has too few boxes of a kind; the topology is only checked; its
 -- file is written with this text as version 2; the journal of this name is legal for it and comes to this, or is not found legal;
--- or it runs, with producers fed so, and shows these texts
+-- or it runs, with producers fed so and, if one is named, this sink for live acknowledgements, and shows these texts
 pub data Case : Type 0 where
   NoCommand : Case
   NoTopology : ConfigFault → Case
@@ -46,7 +47,7 @@ pub data Case : Type 0 where
   Upgrades : (file text : List ℕ) → Topology → Case
   Audits : (name : List ℕ) → Summary → Topology → Case
   Rejects : (name : List ℕ) → AuditFault → Topology → Case
-  Runs : Shows → Feeding → Topology → Case
+  Runs : Shows → (live : Option (List ℕ)) → Feeding → Topology → Case
 
 -- the topology of the file, or why there is none
 abbrev pub for_topology : Result Topology ConfigFault → (Topology → Case) → Case
@@ -58,8 +59,8 @@ unless_short None case = case
 unless_short (Some shortage) case = TooFew shortage
 
 -- it runs where the stock has enough boxes of each kind
-abbrev pub run_case : Boxes → Shows → Feeding → Topology → Case
-run_case boxes shows feeding topology = unless_short (shortage_of topology boxes) (Runs shows feeding topology)
+abbrev pub run_case : Boxes → Shows → (live : Option (List ℕ)) → Feeding → Topology → Case
+run_case boxes shows live feeding topology = unless_short (shortage_of topology boxes) (Runs shows live feeding topology)
 
 -- the journal of this name is legal, or is not found so
 abbrev pub audit_case : (name : List ℕ) → Result Summary AuditFault → Topology → Case
@@ -74,12 +75,12 @@ report_alone = record { steps = false; acks = false }
 -- upgrade, and what is found is found by an audit
 abbrev pub case_of : Option Command → (file text : List ℕ) → (found : Result Summary AuditFault) → Boxes → Case
 case_of None file text found boxes = NoCommand
-case_of (Some (Flow source prefix)) file text found boxes = run_case boxes report_alone Named (flow_topology_of source prefix)
+case_of (Some (Flow source prefix)) file text found boxes = run_case boxes report_alone None Named (flow_topology_of source prefix)
 case_of (Some (Check path)) file text found boxes = for_topology (topology_of_file file) Checks
 case_of (Some (Upgrade path)) file text found boxes = for_topology (topology_of_file file) (Upgrades file text)
 case_of (Some (Audit journal path)) file text found boxes = for_topology (topology_of_file file) (audit_case journal found)
-case_of (Some (Run path workers acks steps)) file text found boxes = for_topology (topology_of_file file) (run_case boxes (record { steps = steps; acks = acks }) Filed)
-case_of (Some (Gen seed count path)) file text found boxes = for_topology (topology_of_file file) (run_case boxes report_alone (MadeFrom seed count))
+case_of (Some (Run path workers acks steps live)) file text found boxes = for_topology (topology_of_file file) (run_case boxes (record { steps = steps; acks = acks }) live Filed)
+case_of (Some (Gen seed count path)) file text found boxes = for_topology (topology_of_file file) (run_case boxes report_alone None (MadeFrom seed count))
 
 -- ---- names
 
@@ -87,7 +88,7 @@ case_of (Some (Gen seed count path)) file text found boxes = for_topology (topol
 abbrev pub file_name : Option Command → Option (List ℕ)
 file_name (Some (Check path)) = Some path
 file_name (Some (Upgrade path)) = Some path
-file_name (Some (Run path workers acks steps)) = Some path
+file_name (Some (Run path workers acks steps live)) = Some path
 file_name (Some (Gen seed count path)) = Some path
 file_name (Some (Audit journal path)) = Some path
 file_name _ = None
@@ -101,10 +102,10 @@ abbrev pub file_calls : Option (List ℕ) → List (EdgeKind × List ℕ)
 file_calls None = []
 file_calls (Some name) = (File, name) ∷ []
 
--- the calls that open what a run reads and writes: the control source first, if one is named, and then in stage order. A producer
--- that reads generated records makes none. An audit opens the journal
+-- the calls that open what a run reads and writes: the control source first, if one is named, then in stage order, and last the sink for
+-- live acknowledgements, if one is named. A producer that reads generated records makes none. An audit opens the journal
 abbrev pub opening_calls : Case → List (EdgeKind × List ℕ)
-opening_calls (Runs shows feeding topology) = run_calls (feeds_of feeding topology) topology
+opening_calls (Runs shows live feeding topology) = with_live live (run_calls (feeds_of feeding topology) topology)
 opening_calls (Audits name summary topology) = (Source, name) ∷ []
 opening_calls (Rejects name fault topology) = (Source, name) ∷ []
 opening_calls _ = []

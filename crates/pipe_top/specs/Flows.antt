@@ -1,5 +1,5 @@
 -- What the parts of a call come to.
-use Rattle.std.specs.Prelude.{◌≡◌, ◌≢◌, ◌≤◌, ◌<◌, ◌^◌, ◌⊎◌, ℕ, List, [], ◌∷◌, ◌++◌, length, IsTrue, Option, Some, None, Result, Ok, Err}
+use Rattle.std.specs.Prelude.{◌≡◌, ◌≢◌, ◌≤◌, ◌<◌, ◌^◌, ◌⊎◌, ℕ, Bool, true, false, List, [], ◌∷◌, ◌++◌, length, IsTrue, Option, Some, None, Result, Ok, Err}
 use Rattle.pipe_types.specs.Counts.{Rose}
 use Rattle.pipe_types.specs.Sound.{IsSound}
 use Rattle.pipe_types.specs.declared.topology.StageSpec.{StageSpec}
@@ -10,7 +10,7 @@ use Rattle.pipe_edges.specs.declared.edges.EdgeKind.TheVariants.{File, Source}
 use Rattle.config_table.specs.declared.fault.ConfigFault.{ConfigFault}
 use Rattle.pipe_config.specs.Upgrade.{IsUpgrade}
 use Rattle.pipe_top.specs.declared.file.Upgraded.{Upgraded}
-use Rattle.program_words.specs.Refusals.{counts_line}
+use Rattle.program_words.specs.Refusals.{counts_line, feed_line}
 use Rattle.program_words.specs.Words.{Command}
 use Rattle.edge_names.specs.Seen.{EdgesSeen}
 use Rattle.edge_names.specs.Supplies.{Feed}
@@ -25,25 +25,50 @@ use Rattle.run_verdicts.specs.Verdicts.{whole_text, status_in}
 use Rattle.run_verdicts.specs.declared.audits.AuditFault.{AuditFault}
 use Rattle.run_verdicts.specs.declared.audits.AuditFault.TheVariants.{Line}
 use Rattle.stage_bodies.specs.Seen.{SourceSeen}
-use Rattle.pipe_top.specs.Runs.{OutsideSeen, IsEnded, IsRun, IsOutsideOf, IsAuditedIn, Asks, FailsAt}
+use Rattle.pipe_run.specs.Whole.{HasCome}
+use Rattle.journal_texts.specs.Report.{status_of}
+use Rattle.pipe_top.specs.Runs.{OutsideSeen, IsRun, IsOutsideOf, IsAuditedIn, Asks, FailsAt}
 use Rattle.run_verdicts.specs.Texts.{run_text}
 use Rattle.run_verdicts.specs.declared.verdict.Refusal.{Refusal}
 use Rattle.run_verdicts.specs.declared.verdict.Refusal.TheVariants.{Usage, Topology as NoTopology, Stock, Edge, Audit, Memory}
 use Rattle.run_verdicts.specs.declared.verdict.Shows.{Shows}
 use Rattle.run_verdicts.specs.declared.verdict.Texts.{Texts}
 use Rattle.run_verdicts.specs.declared.verdict.Verdict.{Verdict}
-use Rattle.run_verdicts.specs.declared.verdict.Verdict.TheVariants.{Refused, Done}
+use Rattle.run_verdicts.specs.declared.verdict.Verdict.TheVariants.{Refused, Done, Unfed}
 
--- the texts are the journal's, and so is the status
+-- the run is drained or halted, the texts are the journal's, and so is the status
 pub record IsReport (shows : Shows) (topology : Topology) (before : History) (texts : Texts) (status : ℕ) : Type 0 where
-  pub ended : IsEnded topology before status
+  pub ended : HasCome topology before
+  pub status_is : status ≡ status_of topology before
   pub by_journal : whole_text texts ≡ run_text shows topology before
 
--- the verdict of a run that came to its end: its report, unless memory was wanting
-abbrev pub IsJudgement : Verdict → Shows → Topology → History → Type 0
-IsJudgement (Done texts status) shows topology before = IsReport shows topology before texts status
-IsJudgement (Refused Memory) shows topology before = Unit {0}
-IsJudgement _ shows topology before = ⊥
+-- the run is drained or halted, the texts are the journal's, and the line names the sink for live acknowledgements
+pub record IsUnfedReport (shows : Shows) (live : Option (List ℕ)) (topology : Topology) (before : History) (texts : Texts) (line : List ℕ) : Type 0 where
+  pub ended : HasCome topology before
+  pub by_journal : whole_text texts ≡ run_text shows topology before
+  pub name : List ℕ
+  pub named : live ≡ Some name
+  pub line_is : line ≡ feed_line name
+
+-- the verdict of a run that came to its end: its report, also where its live sink failed, unless memory was wanting
+abbrev pub IsJudgement : Verdict → Shows → (live : Option (List ℕ)) → Topology → History → Type 0
+IsJudgement (Done texts status) shows live topology before = IsReport shows topology before texts status
+IsJudgement (Unfed texts line) shows live topology before = IsUnfedReport shows live topology before texts line
+IsJudgement (Refused Memory) shows live topology before = Unit {0}
+IsJudgement _ shows live topology before = ⊥
+
+-- the verdict of a run whose sink of this name failed, unless memory was wanting for the line
+abbrev pub IsUnfedOrNot : (name : List ℕ) → Texts → Verdict → Type 0
+IsUnfedOrNot name texts (Unfed written line) = (written ≡ texts) × (line ≡ feed_line name)
+IsUnfedOrNot name texts (Refused Memory) = Unit {0}
+IsUnfedOrNot name texts _ = ⊥
+
+-- what the verdict of a run says of whether its live sink failed
+abbrev pub ShowsUnfed : Verdict → (unfed : Bool) → Type 0
+ShowsUnfed (Done texts status) unfed = unfed ≡ false
+ShowsUnfed (Unfed texts line) unfed = unfed ≡ true
+ShowsUnfed (Refused Memory) unfed = Unit {0}
+ShowsUnfed (Refused _) unfed = ⊥
 
 -- there was no run, for this reason
 pub record IsRefusedBy (refusal : Refusal) (topology : Option Topology) (before : History) (verdict : Verdict) : Type 0 where
@@ -105,12 +130,12 @@ pub record IsFedBy (feeding : Feeding) (topology : Topology) (feeds : StageSpec 
   pub few : IsFew feeding
 
 -- a run on this topology
-pub record IsRunOn (shows : Shows) (feeding : Feeding) (wanted : Topology) (topology : Option Topology) (before : History) (verdict : Verdict) : Type 0 where
+pub record IsRunOn (shows : Shows) (live : Option (List ℕ)) (feeding : Feeding) (wanted : Topology) (topology : Option Topology) (before : History) (verdict : Verdict) : Type 0 where
   pub sound : IsSound wanted
   pub few : IsFew feeding
   pub own : topology ≡ Some wanted
   pub run : IsRun wanted before
-  pub comes_to : IsJudgement verdict shows wanted before
+  pub comes_to : IsJudgement verdict shows live wanted before
 
 -- what each case comes to, where no call by name failed and memory was found before the run
 abbrev pub ComesTo : Case → Option Topology → History → Verdict → Type 0
@@ -121,7 +146,7 @@ ComesTo (Checks wanted) topology before verdict = IsChecked wanted topology befo
 ComesTo (Upgrades file text wanted) topology before verdict = IsUpgraded file text wanted topology before verdict
 ComesTo (Audits name summary wanted) topology before verdict = IsAudited summary wanted topology before verdict
 ComesTo (Rejects name fault wanted) topology before verdict = IsRefusedBy (Audit fault) topology before verdict
-ComesTo (Runs shows feeding wanted) topology before verdict = IsRunOn shows feeding wanted topology before verdict
+ComesTo (Runs shows live feeding wanted) topology before verdict = IsRunOn shows live feeding wanted topology before verdict
 
 -- the case's outcome, or there was no run before it came to one
 abbrev pub Outcome : Case → (fails : List ℕ → Type 0) → Option Topology → History → Verdict → Type 0
@@ -141,7 +166,7 @@ AskedBy _ calls asked asked' = asked' ≡ asked ++ calls
 -- what a call comes to in a case, with the calls by name that the case makes
 pub record ComesBy (old new : OutsideSeen) (case : Case) (calls : List (EdgeKind × List ℕ)) (topology : Option Topology) (before : History) (verdict : Verdict) : Type 0 where
   pub outcome : Outcome case (FailsAt old.edges.told calls old.edges.asked new.edges.asked (Rose old.edges.faults new.edges.faults)) topology before verdict
-  pub outside : IsOutsideOf (verdict ≡ Refused Memory) calls topology before case old new
+  pub outside : IsOutsideOf (verdict ≡ Refused Memory) (ShowsUnfed verdict) calls topology before case old new
   pub asked_by : IsTrue old.edges.told → AskedBy verdict calls old.edges.asked new.edges.asked
   pub same_telling : new.edges.told ≡ old.edges.told
   pub audited : status_in verdict ≢ 5 → status_in verdict ≢ 9 → IsAuditedIn case old.edges new.edges

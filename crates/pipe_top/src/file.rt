@@ -1,6 +1,6 @@
 //! The topology file.
 
-ghost use Rattle.std.specs.Prelude.{◌≡◌, ◌⊎◌, ◌≤◌, ℕ, List, [], Ok, Some, None, IsTrue, IfOk, IfErr};
+ghost use Rattle.std.specs.Prelude.{◌≡◌, ◌⊎◌, ◌≤◌, ℕ, List, [], Ok, Some, None, IsTrue, IfOk, IfErr, option_map};
 ghost use Rattle.pipe_types.specs.{Counts.{Rose}, Sound.{IsSound}};
 ghost use Rattle.pipe_config.specs.{File.{topology_of_file}, Upgrade.{IsUpgrade}};
 ghost use Rattle.pipe_top.specs.Flows.{ReadsFile, ReadsTopology, ReadsUpgrade, UpgradesTo, IsUpgraded, IsChecked, IsCheckedOrNot};
@@ -28,6 +28,16 @@ pub(crate) fn text_of(alloc: Global, word: &str) -> Result<Text, AllocError>
     ensures { IfOk result (λ text. text ≡ word.now) }
 {
     Ok(Text::from_string(String::from_str(alloc, word)?))
+}
+
+/// The name of the live sink, if there is one.
+pub(crate) fn sink_of(alloc: Global, name: Option<&str>) -> Result<Option<Text>, AllocError>
+    ensures { IfOk result (λ live. live ≡ option_map (λ sink. sink.now) name.entry) }
+{
+    match name {
+        Some(name) => Ok(Some(text_of(alloc, name)?)),
+        None => Ok(None),
+    }
 }
 
 /// The topology of the file with this name, or why there is none.

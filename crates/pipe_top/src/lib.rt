@@ -7,6 +7,7 @@
 #![tactic(auto)]
 
 mod audit;
+mod feeds;
 mod file;
 mod program;
 mod run;

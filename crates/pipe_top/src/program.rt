@@ -1,6 +1,6 @@
 //! The top call.
 
-ghost use Rattle.std.specs.Prelude.{◌≡◌, ◌≢◌, ◌⊎◌, ◌≤◌, [], None, Some, IsTrue, count_by, length, map};
+ghost use Rattle.std.specs.Prelude.{◌≡◌, ◌≢◌, ◌⊎◌, ◌≤◌, [], None, Some, IsTrue, count_by, length, map, option_map};
 ghost use Rattle.pipe_types.specs.{Counts.{Rose}, Sound.{IsSound, is_producer as is_producer_role, producers as producers_of}};
 ghost use Rattle.program_words.specs.{Refusals.{memory_line}, Words.{command_of, texts_of, Flow, Check, Run, Gen, Upgrade, Audit}};
 ghost use Rattle.pipe_run.specs.Clocks.{clock_seen};
@@ -10,7 +10,7 @@ ghost use Rattle.pipe_top.specs.{Cases.{InCase}, Runs.{IsRunOrNone, IsCall, IsKn
 ghost use Rattle.run_verdicts.specs.Verdicts.{AddsPrefix};
 
 use crate::audit::{audit_named, audited};
-use crate::file::{checked, finish_upgrade, read_named, upgrade_named};
+use crate::file::{checked, finish_upgrade, read_named, sink_of, upgrade_named};
 use crate::run::{Ran, refused, run_or_refuse};
 use box_stock::{Boxed, Carries};
 use config_flow::flow_topology;
@@ -153,7 +153,7 @@ fn run_flow<
     };
     let supply = ByName::as_it_stands(alloc);
     run_or_refuse::<R, E, ByName, C, B, K>(
-        rt, alloc, &supply, topology, 1, shows, stock, edges, clock,
+        rt, alloc, &supply, topology, 1, shows, None, stock, edges, clock,
     )
 }
 
@@ -246,11 +246,14 @@ fn run_file<
     ensures came { Came
         (record { edges = ⟦<E as SeenEdges>⟧.seen edges.old; clock = clock_seen K.latest K.readings K.pauses clock; boxes = map C.seen stock.items })
         (record { edges = ⟦<E as SeenEdges>⟧.seen edges.new; clock = clock_seen K.latest K.readings K.pauses result.clock; boxes = map C.seen result.stock.items })
-        (Some (Run words.entry.topology.now words.entry.workers words.entry.acks words.entry.steps)) (boxes_in (kinds_of C.seen stock.items)) result.topology result.journal.steps result.verdict }
+        (Some (Run words.entry.topology.now words.entry.workers words.entry.acks words.entry.steps (option_map (λ sink. sink.now) words.entry.live))) (boxes_in (kinds_of C.seen stock.items)) result.topology result.journal.steps result.verdict }
 {
     let shows = Shows {
         steps: words.steps,
         acks: words.acks,
+    };
+    let Ok(live) = sink_of(alloc, words.live) else {
+        return refused(alloc, Refusal::Memory, stock, clock);
     };
     match read_named(alloc, words.topology, edges) {
         Ok(topology) => {
@@ -262,6 +265,7 @@ fn run_file<
                 topology,
                 words.workers,
                 shows,
+                live,
                 stock,
                 edges,
                 clock,
@@ -292,7 +296,7 @@ fn run_generated<
         Ok(topology) => {
             let supply = Made::new(words.seed, words.count, producers(&topology));
             run_or_refuse::<R, E, Made, C, G, K>(
-                rt, alloc, &supply, topology, 1, shows, stock, edges, clock,
+                rt, alloc, &supply, topology, 1, shows, None, stock, edges, clock,
             )
         }
         Err(refusal) => refused(alloc, refusal, stock, clock),

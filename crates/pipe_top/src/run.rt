@@ -1,14 +1,15 @@
 //! The run of a topology.
 
-ghost use Rattle.std.specs.Prelude.{◌≡◌, ◌≢◌, ◌⊎◌, ◌≤◌, ◌++◌, [], true, false, Some, None, IfOk, is_ok, map};
+ghost use Rattle.std.specs.Prelude.{◌≡◌, [], true, false, Some, None, is_ok, if◌then◌else◌, map, option_map};
 ghost use Rattle.pipe_types.specs.Sound.{IsSound};
 ghost use Rattle.core_state.specs.Stands.{Stands};
-ghost use Rattle.pipe_run.specs.{Clocks.{clock_seen}, Whole.{HasCome}};
+ghost use Rattle.pipe_run.specs.{Clocks.{clock_seen}, Live.{with_live}, Whole.{HasCome}};
 ghost use Rattle.edge_names.specs.{Supplies.{FeedsProducers, IsUnmerged}, Controls.{run_calls}};
 ghost use Rattle.box_stock.specs.{Homes.{Suffices}, Lends.{kinds_of}};
 ghost use Rattle.topology_needs.specs.Needs.{boxes_in as boxes_by_kind, shortage_of};
-ghost use Rattle.pipe_top.specs.{Cases.{Feeding, feeds_of, Runs, run_case, opening_calls}, Flows.{IsFedBy, IsJudgement, ComesBy, refusal_in}};
+ghost use Rattle.pipe_top.specs.{Cases.{Feeding, feeds_of, Runs, run_case, opening_calls}, Flows.{IsFedBy, IsJudgement, IsUnfedOrNot, ShowsUnfed, ComesBy, refusal_in}};
 
+use crate::feeds::SinkFeed;
 use box_stock::{Boxed, Carries, boxes_in};
 use core_state::Core;
 use edge_names::{SeenEdges, Supply};
@@ -16,9 +17,11 @@ use journal_texts::status::status;
 use pipe_edges::{Clock, Edges};
 use pipe_journal::Journal;
 use pipe_run::{Ended, NoRun, Run, run_topology};
+use pipe_types::bytes::Text;
 use pipe_types::topology::Topology;
+use program_words::feed_line;
 use rate_gate::GatedSource;
-use run_verdicts::{Refusal, Shows, Verdict, places_of, texts_of};
+use run_verdicts::{Refusal, Shows, Texts, Verdict, places_of, texts_of};
 use stage_bodies::Houses;
 use std::alloc::Global;
 use std::sync::Wait;
@@ -51,7 +54,7 @@ pub(crate) fn refused<C, K>(alloc: Global, refusal: Refusal, stock: Vec<C>, cloc
     }
 }
 
-/// Runs the topology on so many workers with sources by the supply and callbacks of the stock, if it can run.
+/// Runs the topology on so many workers with sources by the supply, callbacks of the stock and this live sink, if it can run.
 pub(crate) fn run_or_refuse<
     R: Threads + Wait + Sync,
     E: Edges,
@@ -66,6 +69,7 @@ pub(crate) fn run_or_refuse<
     topology: Topology,
     workers: u16,
     shows: Shows,
+    live: Option<Text>,
     stock: Vec<C>,
     edges: &mut E,
     clock: K,
@@ -76,13 +80,13 @@ pub(crate) fn run_or_refuse<
     ensures comes { (feeding : Feeding) → IsFedBy feeding topology (Q.feeds supply.now) → ComesBy
         (record { edges = ⟦<E as SeenEdges>⟧.seen edges.old; clock = clock_seen K.latest K.readings K.pauses clock; boxes = map C.seen stock.items })
         (record { edges = ⟦<E as SeenEdges>⟧.seen edges.new; clock = clock_seen K.latest K.readings K.pauses result.clock; boxes = map C.seen result.stock.items })
-        (run_case (boxes_by_kind (kinds_of C.seen stock.items)) shows feeding topology)
-        (opening_calls (run_case (boxes_by_kind (kinds_of C.seen stock.items)) shows feeding topology)) result.topology result.journal.steps result.verdict }
+        (run_case (boxes_by_kind (kinds_of C.seen stock.items)) shows live feeding topology)
+        (opening_calls (run_case (boxes_by_kind (kinds_of C.seen stock.items)) shows live feeding topology)) result.topology result.journal.steps result.verdict }
 {
     match refusal_of(&topology, &boxes_in(stock.as_slice())) {
         Some(refusal) => refused(alloc, refusal, stock, clock),
         None => run_supplied::<R, E, Q, C, B, K>(
-            rt, alloc, supply, topology, workers, shows, stock, edges, clock,
+            rt, alloc, supply, topology, workers, shows, live, stock, edges, clock,
         ),
     }
 }
@@ -111,6 +115,7 @@ fn run_supplied<
     topology: Topology,
     workers: u16,
     shows: Shows,
+    live: Option<Text>,
     stock: Vec<C>,
     edges: &mut E,
     clock: K,
@@ -122,32 +127,41 @@ fn run_supplied<
     ensures comes { (feeding : Feeding) → IsFedBy feeding topology (Q.feeds supply.now) → ComesBy
         (record { edges = ⟦<E as SeenEdges>⟧.seen edges.old; clock = clock_seen K.latest K.readings K.pauses clock; boxes = map C.seen stock.items })
         (record { edges = ⟦<E as SeenEdges>⟧.seen edges.new; clock = clock_seen K.latest K.readings K.pauses result.clock; boxes = map C.seen result.stock.items })
-        (Runs shows feeding topology) (run_calls (feeds_of feeding topology) topology) result.topology result.journal.steps result.verdict }
+        (Runs shows live feeding topology) (with_live live (run_calls (feeds_of feeding topology) topology)) result.topology result.journal.steps result.verdict }
 {
-    let Ended { run, stock, clock } = run_topology::<R, E, Q, C, B, K>(
-        rt, alloc, supply, topology, workers, stock, edges, clock,
+    let Ended { run, stock, clock } = run_topology::<R, E, Q, C, B, K, SinkFeed>(
+        rt, alloc, supply, topology, workers, &live, stock, edges, clock,
     );
     match run {
-        Ok(run) => conclude(alloc, run, shows, stock, clock),
+        Ok(run) => conclude(alloc, run, shows, &live, stock, clock),
         Err(NoRun::Unopened(name)) => refused(alloc, Refusal::Edge(name), stock, clock),
         Err(NoRun::OutOfMemory) => refused(alloc, Refusal::Memory, stock, clock),
     }
 }
 
 /// What the run comes to.
-fn conclude<C, K>(alloc: Global, run: Run, shows: Shows, stock: Vec<C>, clock: K) -> Ran<C, K>
+fn conclude<C, K>(
+    alloc: Global,
+    run: Run,
+    shows: Shows,
+    live: &Option<Text>,
+    stock: Vec<C>,
+    clock: K,
+) -> Ran<C, K>
     requires stands { Stands run.core }
     requires come { is_ok run.end ≡ true → HasCome run.core.topology run.core.journal.steps }
+    requires fed { live.now ≡ None → run.unfed ≡ false }
     ensures topology { result.topology ≡ Some run.core.topology }
     ensures journal { result.journal.steps ≡ run.core.journal.steps }
-    ensures verdict { IsJudgement result.verdict shows run.core.topology run.core.journal.steps }
+    ensures verdict { IsJudgement result.verdict shows live.now run.core.topology run.core.journal.steps }
+    ensures unfed { ShowsUnfed result.verdict run.unfed }
     ensures wanting { is_ok run.end ≡ false → result.verdict ≡ Verdict.Refused Refusal.Memory }
     ensures same_boxes { result.stock.items ≡ stock.items }
     ensures same_clock { result.clock ≡ clock }
 {
-    let Run { core, end } = run;
+    let Run { core, end, unfed } = run;
     let verdict = match end {
-        Ok(_) => judge(alloc, &core, shows),
+        Ok(_) => judge(alloc, &core, shows, live, unfed),
         Err(_) => Verdict::Refused(Refusal::Memory),
     };
     let (topology, journal) = core.into_parts();
@@ -160,17 +174,39 @@ fn conclude<C, K>(alloc: Global, run: Run, shows: Shows, stock: Vec<C>, clock: K
     }
 }
 
-/// The texts and the status of a run that came to its end.
-fn judge(alloc: Global, core: &Core, shows: Shows) -> Verdict
+/// The texts of a run that came to its end, and its status or the line of its live sink, which failed.
+fn judge(alloc: Global, core: &Core, shows: Shows, live: &Option<Text>, unfed: bool) -> Verdict
     requires stands { Stands core.now }
     requires come { HasCome core.now.topology core.now.journal.steps }
-    ensures { IsJudgement result shows core.now.topology core.now.journal.steps }
+    requires fed { live.now ≡ None → unfed ≡ false }
+    ensures verdict { IsJudgement result shows live.now core.now.topology core.now.journal.steps }
+    ensures unfed { ShowsUnfed result unfed }
 {
     match texts_of(alloc, core, shows) {
-        Ok(texts) => {
-            let status = status(core.topology(), core.journal(), places_of(core));
-            Verdict::Done { texts, status }
-        }
+        Ok(texts) => match failed_sink(live, unfed) {
+            Some(name) => unfed_verdict(alloc, name, texts),
+            None => {
+                let status = status(core.topology(), core.journal(), places_of(core));
+                Verdict::Done { texts, status }
+            }
+        },
+        Err(_) => Verdict::Refused(Refusal::Memory),
+    }
+}
+
+/// The name of the live sink, if it failed.
+fn failed_sink(live: &Option<Text>, unfed: bool) -> Option<&Text>
+    ensures { option_map (λ name. name.now) result ≡ (if unfed then live.now else None) }
+{
+    if unfed { live.as_ref() } else { None }
+}
+
+/// The texts, and the line of the live sink, which failed.
+fn unfed_verdict(alloc: Global, name: &Text, texts: Texts) -> Verdict
+    ensures { IsUnfedOrNot name.now texts result }
+{
+    match feed_line(alloc, name.as_str()) {
+        Ok(line) => Verdict::Unfed { texts, line },
         Err(_) => Verdict::Refused(Refusal::Memory),
     }
 }

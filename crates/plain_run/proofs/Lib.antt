@@ -10,3 +10,4 @@ pub mod Judging
 pub mod Naming
 pub mod Legality
 pub mod Placing
+pub mod Settling

@@ -4,3 +4,4 @@ pub mod Works
 pub mod Owes
 pub mod Runs
 pub mod Steps
+pub mod Acked

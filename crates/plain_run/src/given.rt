@@ -121,7 +121,7 @@ fn first_of(numbers: &[u32]) -> u32
 }
 
 /// The messages of the closed batch with that number, from 1, and none where there is no such batch.
-fn numbers_at(batches: &[BatchRow], no: u32) -> &[u32]
+pub(crate) fn numbers_at(batches: &[BatchRow], no: u32) -> &[u32]
     ensures { result.now ≡ numbers_at batches.now no }
 {
     if no == 0 {

@@ -95,7 +95,7 @@ fn is_supervisor(topology: &Topology, stage: StageNo) -> bool
 }
 
 /// The number at that place.
-fn number_at(numbers: &[u32], at: usize) -> Option<u32>
+pub(crate) fn number_at(numbers: &[u32], at: usize) -> Option<u32>
     ensures { result ≡ slice_get numbers.now at }
 {
     numbers.get(at).copied()
@@ -121,7 +121,7 @@ fn with_producer(core: &Core, no: u32) -> Option<(MsgNo, StageNo)>
 }
 
 /// The producer of the message that was accepted after so many others.
-fn producer_at(producers: &[StageNo], others: usize) -> Option<StageNo>
+pub(crate) fn producer_at(producers: &[StageNo], others: usize) -> Option<StageNo>
     ensures { result ≡ slice_get producers.now others }
 {
     producers.get(others).copied()

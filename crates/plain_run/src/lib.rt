@@ -2,7 +2,7 @@
 //!
 //! A `PlainRun` has a topology and the steps so far. `step` appends the step that it is given where that is legal, and says
 //! whether it is; `chunk` says which message a job that is out works on at a place; `places`, `is_drained` and `has_halted` say
-//! what the steps come to. A step costs what the run spent on it.
+//! what the steps come to; `settled` says which messages the last step acknowledged. A step costs what the run spent on it.
 #![tactic(auto)]
 
 mod accepts;
@@ -18,6 +18,7 @@ mod given;
 mod jobs;
 mod judges;
 mod run;
+mod settled;
 mod standing;
 mod takes;
 mod works;

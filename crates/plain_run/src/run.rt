@@ -1,20 +1,23 @@
 //! The run.
 
-ghost use Rattle.std.specs.{Prelude.{◌≡◌, ◌∷◌, [], true, false, length, IfOk, IfErr, OnErr, Ok}, List.{filter_map}};
+ghost use Rattle.std.specs.{Prelude.{◌≡◌, ◌∷◌, [], true, false, length, is_some, nat_lt, option_map, slice_get, IfOk, IfErr, OnErr, Ok}, List.{filter_map}};
 ghost use Rattle.pipe_types.specs.Sound.{IsSound};
 ghost use Rattle.pipe_model.specs.{Acknowledgements.{numbers_upto}, History.{accepted as accepted_in}, Flow.{place}, Legal.{allows, is_legal, happened, is_halt}};
 ghost use Rattle.pipe_model.specs.Moves.{is_drained as is_drained_as};
 ghost use Rattle.core_state.specs.Stands.{Stands};
+ghost use Rattle.settle_laws.specs.Settled.{row_of, settled_last};
+ghost use Rattle.plain_run.specs.Acked.{row_seen};
 ghost use Rattle.plain_run.specs.Jobs.{named_at as named_at_as};
 
 use crate::after::After;
 use crate::jobs::named_at;
-use crate::judges::{has_halted, judge};
+use crate::judges::has_halted;
+use crate::settled::{judge_and_note, settled_row};
 use crate::standing::{accepted, is_drained, places};
 use crate::works::{Works, new_works};
 use core_state::Core;
 use pipe_journal::Journal;
-use pipe_types::message::Place;
+use pipe_types::message::{Outcome, Place};
 use pipe_types::numbers::{MsgNo, Post, StageNo};
 use pipe_types::step::Step;
 use pipe_types::topology::Topology;
@@ -27,17 +30,19 @@ pub struct PlainRun {
     core: Core,
     works: Works,
     after: After,
+    // The messages that the last step acknowledged, ascending.
+    settled: Vec<u32>,
 }
 
 impl Model for PlainRun {
-    ghost use Rattle.plain_run.specs.Runs.{IsRun};
+    ghost use Rattle.plain_run.specs.Runs.{IsWhole};
     ghost use Rattle.plain_run.specs.Seen.{RunSeen};
 
     ghost Value = { RunSeen };
 
     ghost view = { λ r. record { topology = r.core.topology; steps = r.core.journal.steps } };
 
-    ghost invariant = { λ r. IsRun r.core r.works r.after };
+    ghost invariant = { λ r. IsWhole r.core r.works r.after r.settled.items };
 }
 
 impl PlainRun {
@@ -68,6 +73,7 @@ impl PlainRun {
                 core,
                 works,
                 after: After::Free,
+                settled: Vec::new(alloc),
             }),
             Err(failed) => {
                 let (topology, _) = core.into_parts();
@@ -85,7 +91,13 @@ impl PlainRun {
         ensures unchanged { OnErr result (self.new.steps ≡ self.old.steps) }
         ensures topology { self.new.topology ≡ self.old.topology }
     {
-        let next = judge(&mut self.core, &mut self.works, self.after, step)?;
+        let next = judge_and_note(
+            &mut self.core,
+            &mut self.works,
+            &mut self.settled,
+            self.after,
+            step,
+        )?;
         let legal = next.is_some();
         self.after = next.unwrap_or(self.after);
         Ok(legal)
@@ -134,6 +146,15 @@ impl PlainRun {
         ensures len { length result.now ≡ accepted_in self.now.steps }
     {
         places(&self.core)
+    }
+
+    /// The message at that place, from 0, of those that the last step acknowledged, ascending, with its producer and its outcome;
+    /// none just past their number.
+    pub fn settled(&self, at: u32) -> Option<(MsgNo, StageNo, &Outcome)>
+        ensures row { option_map row_seen result ≡ row_of self.now.topology self.now.steps (slice_get (settled_last self.now.topology self.now.steps) at) }
+        ensures past { is_some result ≡ nat_lt at (length (settled_last self.now.topology self.now.steps)) }
+    {
+        settled_row(&self.core, &self.settled, at as usize)
     }
 
     /// Whether the drain has begun, no job is out, and every accepted message is acknowledged or lost.

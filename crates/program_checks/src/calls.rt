@@ -1,6 +1,7 @@
 //! A call of the program over objects in memory, and what it came to.
 
 use super::case::Case;
+use super::judge::acks_in;
 use super::outside::{World, are_sinks_free, clock, held_under, is_source_free, shown, world_of};
 use super::texts::{has_line, has_word, pieces_in};
 use body_jobs::Body;
@@ -66,7 +67,8 @@ fn tell_counts(rt: &HostRuntime, case: &Case, end: &Ended) -> io::Result<()> {
 
 fn tell_texts(rt: &HostRuntime, case: &Case, world: &World) -> io::Result<()> {
     tell_outputs(rt, case, shown(&world.out), shown(&world.err))?;
-    tell_sinks(rt, case, &world.edges)
+    tell_sinks(rt, case, &world.edges)?;
+    tell_live(rt, case, world)
 }
 
 /// Writes the output, or of it what the case wants to see, and the error output.
@@ -92,6 +94,19 @@ fn tell_sinks(rt: &HostRuntime, case: &Case, edges: &MemEdges) -> io::Result<()>
     if has_word(case.text("show"), "sorted") {
         tell_sorted(rt, case, "s", held_under(rt.alloc(), edges, "mem:s")?)?;
         tell_sorted(rt, case, "t", held_under(rt.alloc(), edges, "mem:t")?)?;
+    }
+    Ok(())
+}
+
+/// Writes what the live sink holds, or whether that is what the output has of acknowledgements, as the case wants to see it.
+fn tell_live(rt: &HostRuntime, case: &Case, world: &World) -> io::Result<()> {
+    let live = held_under(rt.alloc(), &world.edges, "mem:l")?;
+    if has_word(case.text("show"), "l") {
+        tell(rt, "l ", live)?;
+    }
+    if has_word(case.text("show"), "live") {
+        let same = !live.is_empty() && live == acks_in(shown(&world.out));
+        println!(rt; "l has the acknowledgements: {same}")?;
     }
     Ok(())
 }

@@ -7,13 +7,15 @@ use std::alloc::{AllocError, Global};
 /// More messages than a made case has.
 const MOST_NUMBERS: usize = 1_000;
 
-/// What a run with all its texts came to: the output, what the sinks hold, the status, whether all came home, and how many
-/// steps the journal has.
+/// What a run with all its texts came to: the output and the error output, what the sinks hold, the live one too where the
+/// words name it, the status, whether all came home, and how many steps the journal has.
 #[derive(Clone, Copy)]
 pub struct Came<'a> {
     pub out: &'a str,
+    pub err: &'a str,
     pub s: &'a str,
     pub t: &'a str,
+    pub live: Option<&'a str>,
     pub status: u8,
     pub home: bool,
     pub steps: usize,
@@ -37,6 +39,15 @@ pub fn parts_of(out: &str) -> Option<Told<'_>> {
         acks,
         report,
     })
+}
+
+/// The acknowledgements of an output, which stand behind the journal, where it has one, and before the report.
+pub fn acks_in(out: &str) -> &str {
+    let (front, _) = out.split_once("accepted ").unwrap_or((out, ""));
+    match front.split_once("\nend ") {
+        Some((_, behind)) => behind.split_once('\n').unwrap_or((behind, "")).1,
+        None => front,
+    }
 }
 
 /// What a run came to by its report.
@@ -86,6 +97,32 @@ fn status_of(counts: Counts) -> u8 {
         1
     } else {
         0
+    }
+}
+
+/// What is wrong with the status, the error output and the live sink, or nothing. The live sink holds the acknowledgements. Where it
+/// failed, it holds less than that.
+fn fault_in_status(case: &Case, came: Came<'_>, counts: Counts) -> &'static str {
+    let acks = acks_in(came.out);
+    match came.live {
+        Some(live) if live != acks => fault_in_unfed(case, came, live, acks),
+        _ if came.status != status_of(counts) => "status",
+        _ if came.err != "" => "error output",
+        _ => "",
+    }
+}
+
+/// What is wrong with a run whose live sink does not hold all acknowledgements, or nothing: the sink failed, what it holds is the
+/// front of them, and the run says so.
+fn fault_in_unfed(case: &Case, came: Came<'_>, live: &str, acks: &str) -> &'static str {
+    if !case.text("l.acts").ends_with("fail") || !acks.starts_with(live) {
+        "live acknowledgements"
+    } else if came.status != 12 {
+        "status with a failed live sink"
+    } else if came.err != "feed mem:l\n" {
+        "error output with a failed live sink"
+    } else {
+        ""
     }
 }
 
@@ -262,11 +299,12 @@ pub fn fault_in_texts(
     told: Told<'_>,
     counts: Counts,
 ) -> &'static str {
+    let status = fault_in_status(case, came, counts);
     let causes = fault_in_causes(told, counts);
     if !came.home {
         "what comes home"
-    } else if came.status != status_of(counts) {
-        "status"
+    } else if status != "" {
+        status
     } else if first_number(told.acks) != came.steps {
         "number of steps"
     } else if causes != "" {

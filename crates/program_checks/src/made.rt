@@ -7,7 +7,7 @@ use super::making::case_of;
 use super::outside::{World, held_under, shown, world_of};
 use super::reading::steps_in;
 use super::slow::fault_in;
-use super::texts::{has_line, lines_with};
+use super::texts::{has_line, has_word, lines_with};
 use pipe_types::step::Step;
 use std::alloc::{AllocError, Global};
 use std::io;
@@ -52,7 +52,10 @@ fn run_row<R: Threads + Wait + Sync>(
     let mut world = world_of(rt.alloc(), &case)?;
     let (status, steps) = steps_of(waits, rt.alloc(), &case, words, &mut world)?;
     let home = is_home(rt.alloc(), &case, &mut world)?;
-    let fault = fault_of(rt.alloc(), rules, &case, &world, status, home, &steps)?;
+    let live = has_word(words, "--live");
+    let came = came_of(rt.alloc(), &world, live, status, home, steps.len())?;
+    let calm = rules.text("rule") == "calm";
+    let fault = fault_in(rt.alloc(), calm, &case, came, steps.as_slice())?;
     if fault != "" {
         println!(rt; "row {row}: {fault}")?;
     }
@@ -79,25 +82,26 @@ fn steps_of<R: Threads + Wait + Sync>(
     Ok((end.status, steps))
 }
 
-fn fault_of(
+/// What the run came to; the last sink is live, or its words do not name it.
+fn came_of<'a>(
     alloc: Global,
-    rules: &Case,
-    case: &Case,
-    world: &World,
+    world: &'a World,
+    live: bool,
     status: u8,
     home: bool,
-    steps: &Vec<Step>,
-) -> Result<&'static str, AllocError> {
-    let came = Came {
+    steps: usize,
+) -> Result<Came<'a>, AllocError> {
+    let l = held_under(alloc, &world.edges, "mem:l")?;
+    Ok(Came {
         out: shown(&world.out),
+        err: shown(&world.err),
         s: held_under(alloc, &world.edges, "mem:s")?,
         t: held_under(alloc, &world.edges, "mem:t")?,
+        live: if live { Some(l) } else { None },
         status,
         home,
-        steps: steps.len(),
-    };
-    let calm = rules.text("rule") == "calm";
-    fault_in(alloc, calm, case, came, steps.as_slice())
+        steps,
+    })
 }
 
 /// Marks each form of which there is a line in the output, or that the run was.

@@ -4,7 +4,8 @@
 //! the program with these words, `own N` runs callbacks of one's own on N workers, `handlers N` runs the lines of the case with
 //! N handlers that pass all, `plain N` with N callbacks that write plain text, and `made N WORDS` calls the program on so many
 //! topologies that rules of the case make (`making.rt`) and has the slow machine judge them. `back N` reads the texts of the
-//! journals of such runs back, and `read` the text that the case gives (`back.rt`, `reading.rt`).
+//! journals of such runs back, and `read` the text that the case gives (`back.rt`, `reading.rt`). `lengths` runs the topology of the
+//! case and looks at the journals that its watch is shown (`lengths.rt`).
 #![tactic(auto)]
 
 mod back;
@@ -12,6 +13,7 @@ mod calls;
 mod case;
 mod changes;
 mod judge;
+mod lengths;
 mod made;
 mod making;
 mod meets;
@@ -57,6 +59,8 @@ fn obey<R: Threads + Wait + Sync>(
         made::run_made(rt, waits, case, rest)
     } else if word == "back" {
         back::run_back(rt, waits, case, rest)
+    } else if line == "lengths" {
+        lengths::run_lengths(rt, waits, case)
     } else if line == "read" {
         reading::run_reading(rt, case)
     } else if word == "case" {

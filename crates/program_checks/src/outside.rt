@@ -53,10 +53,11 @@ pub fn is_source_free(
     }
 }
 
-/// Whether both sinks were given back.
+/// Whether all sinks were given back.
 pub fn are_sinks_free(alloc: Global, edges: &MemEdges) -> Result<bool, AllocError> {
     let (s, t) = (text_of(alloc, "mem:s")?, text_of(alloc, "mem:t")?);
-    Ok(edges.sink(&s).is_some() && edges.sink(&t).is_some())
+    let l = text_of(alloc, "mem:l")?;
+    Ok(edges.sink(&s).is_some() && edges.sink(&t).is_some() && edges.sink(&l).is_some())
 }
 
 /// What the sink under this name holds, or nothing where it was not given back.
@@ -132,6 +133,10 @@ fn edges_without_sources(alloc: Global, case: &Case) -> Result<MemEdges, AllocEr
     edges.add_sink(
         text_of(alloc, "mem:t")?,
         sink_of(alloc, case.text("t.acts"))?,
+    )?;
+    edges.add_sink(
+        text_of(alloc, "mem:l")?,
+        sink_of(alloc, case.text("l.acts"))?,
     )?;
     Ok(edges)
 }

@@ -1,5 +1,5 @@
 -- From the clauses of clap's calls to what clap takes.
-use Rattle.std.proofs.Common.{◌≡◌, ◌⊎◌, ◌∙◌, ℕ, Bool, true, false, List, [], ◌∷◌, Option, Some, None, codes, inl, inr, refl, sym, subst, ap, arith, ne_eqb, not, is_some, option_and_then, true≢false}
+use Rattle.std.proofs.Common.{◌≡◌, ◌⊎◌, ◌∙◌, ℕ, suc, Bool, true, false, List, [], ◌∷◌, Option, Some, None, codes, inl, inr, refl, sym, subst, ap, arith, ne_eqb, not, is_some, option_and_then, true≢false, length, ◌==◌}
 use Rattle.std.specs.Option.{option_eq, option_map_or}
 use Rattle.clap.specs.Words.{App, IsAmong, Kinds, Row, Text, app_of, fault_of, first_of, new_app, subcommand_of}
 use Rattle.clap.specs.Walk.{is_empty}
@@ -12,7 +12,7 @@ use Rattle.clap.specs.declared.builder.command.Command.{Command as Program}
 use Rattle.clap.specs.declared.builder.command.Command.TheViews.{out-Command}
 use Rattle.clap.specs.declared.error.ErrorKind.{ErrorKind}
 use Rattle.clap.specs.declared.error.ErrorKind.TheVariants.{OutOfMemory}
-use Rattle.program_words.specs.Words.{Command, Run, Gen, Audit, audit_of, bare_grammar, gen_of, grammar, named_in, run_in, taken_of, workers_in}
+use Rattle.program_words.specs.Words.{Command, Run, Gen, Audit, audit_of, bare_grammar, gen_of, grammar, named_in, run_of, sink_of, taken_of}
 
 -- where clap finds no fault, the command is that of the subcommand it found
 pub no_fault : (words : List Text) (entered : Option (Text × List Row)) → fault_of grammar words ≡ [] → entered ≡ subcommand_of grammar words
@@ -45,14 +45,35 @@ bare start named flag sub new first second third =
     (ap app_of_fields first ∙ ap (on_top (λ (s : Shape). record s { no_binary_name = true })) new))
 
 -- a run, by its parts
-pub run_read : (rows : List Row) (topology : Text) (workers : ℕ) (acks steps : Bool) → Some topology ≡ first_of (codes "topology") rows → Some workers ≡ workers_in rows
-    → acks ≡ is_given (codes "acks") rows → steps ≡ is_given (codes "steps") rows → Some (Run topology workers acks steps) ≡ run_in rows
-run_read rows topology workers acks steps named number first second = go (first_of (codes "topology") rows) (workers_in rows) named number
-  where
-    go : (t : Option Text) (n : Option ℕ) → Some topology ≡ t → Some workers ≡ n
-        → Some (Run topology workers acks steps)
-        ≡ option_and_then (λ topology. Rattle.std.specs.Option.option_map (λ workers. Run topology workers (is_given (codes "acks") rows) (is_given (codes "steps") rows)) n) t
-    go t n named number = rw (← named, ← number, first, second) refl
+pub run_read : (topology : Option Text) (workers : Option ℕ) (live : Option (Option Text)) (acks steps given_acks given_steps : Bool) (t : Text) (n : ℕ) (l : Option Text) → Some t ≡ topology → Some n ≡ workers → Some l ≡ live
+    → acks ≡ given_acks → steps ≡ given_steps → Some (Run t n acks steps l) ≡ run_of topology workers live given_acks given_steps
+run_read topology workers live acks steps given_acks given_steps t n l first second third fourth fifth = rw (← first, ← second, ← third, fourth, fifth) refl
+
+pub no_file : (topology : Option Text) (workers : Option ℕ) (live : Option (Option Text)) (acks steps : Bool) → None ≡ topology → None ≡ run_of topology workers live acks steps
+no_file None workers live acks steps none = refl
+no_file (Some t) workers live acks steps none = cc
+
+pub no_workers : (topology : Option Text) (workers : Option ℕ) (live : Option (Option Text)) (acks steps : Bool) → None ≡ workers → None ≡ run_of topology workers live acks steps
+no_workers None workers live acks steps none = refl
+no_workers (Some t) None live acks steps none = refl
+no_workers (Some t) (Some n) live acks steps none = cc
+
+pub no_live : (topology : Option Text) (workers : Option ℕ) (live : Option (Option Text)) (acks steps : Bool) → None ≡ live → None ≡ run_of topology workers live acks steps
+no_live None workers live acks steps none = refl
+no_live (Some t) None live acks steps none = refl
+no_live (Some t) (Some n) None acks steps none = refl
+no_live (Some t) (Some n) (Some l) acks steps none = cc
+
+-- the name of a sink
+pub named_sink : (text : Text) → false ≡ (length text == 0) → Some (Some text) ≡ sink_of text
+named_sink [] some = cc
+named_sink (code ∷ rest) some = refl
+
+pub empty_sink : (text : Text) → true ≡ (length text == 0) → None ≡ sink_of text
+empty_sink [] none = refl
+empty_sink (code ∷ rest) none =
+    let no : true ≡ false = none ∙ ne_eqb (suc (length rest)) 0 (omega arith) in
+    absurd (true≢false no)
 
 -- generated records, by their parts
 pub gen_read : (seed count : Option ℕ) (topology : Option Text) (s n : ℕ) (t : Text) → Some s ≡ seed → Some n ≡ count → Some t ≡ topology → Some (Gen s n t) ≡ gen_of seed count topology

@@ -7,7 +7,7 @@ abbrev pub lf : List ℕ
 lf = 10 ∷ []
 
 abbrev pub usage_line : List ℕ
-usage_line = codes "usage: flow SOURCE PREFIX; check TOPOLOGY; run TOPOLOGY [--workers N] [--acks] [--steps]; gen SEED COUNT TOPOLOGY; upgrade TOPOLOGY; audit JOURNAL TOPOLOGY" ++ lf
+usage_line = codes "usage: flow SOURCE PREFIX; check TOPOLOGY; run TOPOLOGY [--workers N] [--acks] [--steps] [--live SINK]; gen SEED COUNT TOPOLOGY; upgrade TOPOLOGY; audit JOURNAL TOPOLOGY" ++ lf
 
 abbrev pub memory_line : List ℕ
 memory_line = codes "memory" ++ lf
@@ -15,6 +15,10 @@ memory_line = codes "memory" ++ lf
 -- edge NAME
 abbrev pub edge_line : (name : List ℕ) → List ℕ
 edge_line name = codes "edge " ++ name ++ lf
+
+-- feed NAME
+abbrev pub feed_line : (name : List ℕ) → List ℕ
+feed_line name = codes "feed " ++ name ++ lf
 
 abbrev pub kind_word : Kind → List ℕ
 kind_word Steps = codes "steps"

@@ -16,12 +16,13 @@ use Rattle.program_words.specs.declared.words.Command as code
 use Rattle.program_words.specs.declared.words.Command.TheVariants as coded
 
 -- `flow` with the name of a source and a prefix, `check` and `upgrade` with a topology file, `run` with one, the number of
--- workers, and whether the acknowledgements and the steps are asked for, `gen` with a seed, how many records are to be
--- generated, and a topology file, and `audit` with the name of a source and a topology file
+-- workers, whether the acknowledgements and the steps are asked for, and the name of a sink for live acknowledgements, if there
+-- is one, `gen` with a seed, how many records are to be generated, and a topology file, and `audit` with the name of a source
+-- and a topology file
 pub data Command : Type 0 where
   Flow : (source prefix : List ℕ) → Command
   Check : (topology : List ℕ) → Command
-  Run : (topology : List ℕ) → (workers : ℕ) → (acks steps : Bool) → Command
+  Run : (topology : List ℕ) → (workers : ℕ) → (acks steps : Bool) → (live : Option (List ℕ)) → Command
   Gen : (seed count : ℕ) → (topology : List ℕ) → Command
   Upgrade : (topology : List ℕ) → Command
   Audit : (journal topology : List ℕ) → Command
@@ -47,6 +48,10 @@ topology_rule = word_rule (codes "topology")
 abbrev pub workers_rule : Rule
 workers_rule = record (new_rule (codes "workers")) { long = Some (codes "workers") }
 
+-- `--live SINK` or `--live=SINK`
+abbrev pub live_rule : Rule
+live_rule = record (new_rule (codes "live")) { long = Some (codes "live") }
+
 -- an option that takes no value
 abbrev pub flag_rule : Text → Rule
 flag_rule name = record (new_rule name) { long = Some name; action = Some SetTrue }
@@ -55,10 +60,10 @@ flag_rule name = record (new_rule name) { long = Some name; action = Some SetTru
 abbrev pub check_grammar : App
 check_grammar = with_rule (new_app (codes "check")) topology_rule
 
--- `run TOPOLOGY [--workers N] [--acks] [--steps]`
+-- `run TOPOLOGY [--workers N] [--acks] [--steps] [--live SINK]`
 abbrev pub run_grammar : App
-run_grammar = with_rule (with_rule (with_rule (with_rule (new_app (codes "run"))
-    topology_rule) workers_rule) (flag_rule (codes "acks"))) (flag_rule (codes "steps"))
+run_grammar = with_rule (with_rule (with_rule (with_rule (with_rule (new_app (codes "run"))
+    topology_rule) workers_rule) (flag_rule (codes "acks"))) (flag_rule (codes "steps"))) live_rule
 
 -- `gen SEED COUNT TOPOLOGY`
 abbrev pub gen_grammar : App
@@ -82,7 +87,7 @@ bare_grammar = on_top (λ s. record s {
 
 -- `check`, `run`, `gen`, `upgrade` or `audit`, each with its own words after it. By what clap takes of it: the command's word comes first; after
 -- it options and the other words stand in any order, these among themselves in the order given; an option is written in full and at most once, `--workers N` or
--- `--workers=N`, `--acks` and `--steps` without a value; `--` ends the options; there is no help and no version
+-- `--workers=N`, `--live SINK` or `--live=SINK`, `--acks` and `--steps` without a value; `--` ends the options; there is no help and no version
 abbrev pub grammar : App
 grammar =
     with_subcommand (with_subcommand (with_subcommand (with_subcommand (with_subcommand bare_grammar check_grammar.top) run_grammar.top) gen_grammar.top) upgrade_grammar.top) audit_grammar.top
@@ -112,10 +117,21 @@ check_in rows = option_map Check (first_of (codes "topology") rows)
 abbrev pub upgrade_in : List Row → Option Command
 upgrade_in rows = option_map Upgrade (first_of (codes "topology") rows)
 
+-- the sink that the text after `--live` names: no empty text names one
+abbrev pub sink_of : Text → Option (Option Text)
+sink_of [] = None
+sink_of (code ∷ rest) = Some (Some (code ∷ rest))
+
+-- the sink of `--live`, if the option is given; an empty name is no sink, and then there is no command
+abbrev pub live_in : List Row → Option (Option Text)
+live_in rows = option_map_or sink_of (first_of (codes "live") rows) (Some None)
+
+abbrev pub run_of : (topology : Option Text) → (workers : Option ℕ) → (live : Option (Option Text)) → (acks steps : Bool) → Option Command
+run_of (Some topology) (Some workers) (Some live) acks steps = Some (Run topology workers acks steps live)
+run_of _ _ _ acks steps = None
+
 abbrev pub run_in : List Row → Option Command
-run_in rows = option_and_then (λ topology. option_map (λ workers.
-    Run topology workers (is_given (codes "acks") rows) (is_given (codes "steps") rows))
-    (workers_in rows)) (first_of (codes "topology") rows)
+run_in rows = run_of (first_of (codes "topology") rows) (workers_in rows) (live_in rows) (is_given (codes "acks") rows) (is_given (codes "steps") rows)
 
 abbrev pub gen_of : (seed count : Option ℕ) → (topology : Option Text) → Option Command
 gen_of (Some seed) (Some count) (Some topology) = Some (Gen seed count topology)
@@ -162,4 +178,4 @@ seen_as (Some (coded.Check topology)) = Some (Check topology.now)
 seen_as (Some (coded.Gen words)) = Some (Gen words.seed words.count words.topology.now)
 seen_as (Some (coded.Upgrade topology)) = Some (Upgrade topology.now)
 seen_as (Some (coded.Audit words)) = Some (Audit words.journal.now words.topology.now)
-seen_as (Some (coded.Run words)) = Some (Run words.topology.now words.workers words.acks words.steps)
+seen_as (Some (coded.Run words)) = Some (Run words.topology.now words.workers words.acks words.steps (option_map (λ sink. sink.now) words.live))

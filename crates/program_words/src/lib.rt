@@ -7,5 +7,7 @@
 pub mod refusals;
 pub mod words;
 
-pub use refusals::{counts_line, edge_line, memory_line, stock_line, topology_line, usage_line};
+pub use refusals::{
+    counts_line, edge_line, feed_line, memory_line, stock_line, topology_line, usage_line,
+};
 pub use words::{AuditWords, Command, FlowWords, GenWords, RunWords, read_words};

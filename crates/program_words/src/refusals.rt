@@ -13,7 +13,7 @@ pub fn usage_line(alloc: Global) -> Result<Bytes, AllocError>
 {
     line_of(
         alloc,
-        "usage: flow SOURCE PREFIX; check TOPOLOGY; run TOPOLOGY [--workers N] [--acks] [--steps]; gen SEED COUNT TOPOLOGY; upgrade TOPOLOGY; audit JOURNAL TOPOLOGY\n",
+        "usage: flow SOURCE PREFIX; check TOPOLOGY; run TOPOLOGY [--workers N] [--acks] [--steps] [--live SINK]; gen SEED COUNT TOPOLOGY; upgrade TOPOLOGY; audit JOURNAL TOPOLOGY\n",
     )
 }
 
@@ -29,6 +29,13 @@ pub fn edge_line(alloc: Global, name: &str) -> Result<Bytes, AllocError>
     ensures { IfOk result (λ line. line ≡ text.edge_line name.now) }
 {
     bytes_of(format!(in alloc; "edge {name}\n")?)
+}
+
+/// The name of the sink for live acknowledgements, which failed.
+pub fn feed_line(alloc: Global, name: &str) -> Result<Bytes, AllocError>
+    ensures { IfOk result (λ line. line ≡ text.feed_line name.now) }
+{
+    bytes_of(format!(in alloc; "feed {name}\n")?)
 }
 
 /// The kind of callback of which there are fewer boxes than stages need.

@@ -1,9 +1,9 @@
 //! Which command the words are.
 
-ghost use Rattle.std.specs.Prelude.{◌≡◌, ◌==◌, ◌||◌, ◌&&◌, IfOk, false, option_and_then, slice_index, bytes_eq, decimal};
+ghost use Rattle.std.specs.Prelude.{◌≡◌, ◌==◌, ◌||◌, ◌&&◌, IfOk, false, option_and_then, option_map, slice_index, bytes_eq, decimal};
 ghost use Rattle.clap.specs.{Words.{app_of, found_of, rows_of, rule_of, subcommand_rows_of}, Takes.{is_given}};
 ghost use Rattle.pipe_types.specs.Sound.{is_between};
-ghost use Rattle.program_words.specs.Words.{command_of, texts_of, seen_as, flow_of, taken_of, named_in, check_in, upgrade_in, run_in, gen_in, audit_in, workers_in, workers_of, number_in as number_in_of, number_at as number_at_of, grammar, check_grammar, run_grammar, gen_grammar, upgrade_grammar, audit_grammar, flag_rule, word_rule};
+ghost use Rattle.program_words.specs.Words.{command_of, texts_of, seen_as, flow_of, taken_of, named_in, check_in, upgrade_in, run_in, gen_in, audit_in, workers_in, workers_of, live_in, sink_of, number_in as number_in_of, number_at as number_at_of, grammar, check_grammar, run_grammar, gen_grammar, upgrade_grammar, audit_grammar, flag_rule, word_rule};
 
 use clap::error::ErrorKind;
 use clap::parser::ValueSource;
@@ -24,14 +24,16 @@ pub struct FlowWords<'a> {
     pub prefix: &'a str,
 }
 
-/// `run TOPOLOGY [--workers N] [--acks] [--steps]`: the name of a topology file, how many workers are to run it, from 1
-/// to 16, and whether its acknowledgements and its steps are to be written before the report.
+/// `run TOPOLOGY [--workers N] [--acks] [--steps] [--live SINK]`: the name of a topology file, how many workers are to run it,
+/// from 1 to 16, whether its acknowledgements and its steps are to be written before the report, and the name of the sink that
+/// is to have the acknowledgements while it runs, if there is one.
 #[derive(Clone, Copy, Drop)]
 pub struct RunWords<'a> {
     pub topology: &'a str,
     pub workers: u16,
     pub acks: bool,
     pub steps: bool,
+    pub live: Option<&'a str>,
 }
 
 /// `gen SEED COUNT TOPOLOGY`: the seed of the records, how many there are to be, from 1 to 2,000,000, and the name of a
@@ -145,6 +147,7 @@ fn run_words<'a>(matches: &ArgMatches<'a>) -> Option<Command<'a>>
         workers: workers(matches)?,
         acks: has_option(matches, "acks"),
         steps: has_option(matches, "steps"),
+        live: live(matches)?,
     }))
 }
 
@@ -217,6 +220,27 @@ fn begins_with_plus_or_zero(text: &str) -> bool
     }
 }
 
+/// The sink that the words name for live acknowledgements, if they name one. Where its name is empty, the words are no command.
+fn live<'a>(matches: &ArgMatches<'a>) -> Option<Option<&'a str>>
+    ensures { option_map (option_map (λ sink. sink.now)) result ≡ live_in (rows_of (found_of matches.now)) }
+{
+    match matches.get_str("live") {
+        Some(text) => sink_name(text),
+        None => Some(None),
+    }
+}
+
+/// The sink of this name; an empty text is no name.
+fn sink_name<'a>(text: &'a str) -> Option<Option<&'a str>>
+    ensures { option_map (option_map (λ sink. sink.now)) result ≡ sink_of text.entry.now }
+{
+    if text.is_empty() {
+        None
+    } else {
+        Some(Some(text))
+    }
+}
+
 /// Whether the words give the option, which else has its default.
 fn has_option(matches: &ArgMatches<'_>, name: &str) -> bool
     ensures { result ≡ is_given name.now (rows_of (found_of matches.now)) }
@@ -272,11 +296,13 @@ fn run_command<'a>(alloc: Global) -> Result<clap::Command<'a>, AllocError>
     ensures { IfOk result (λ command. app_of command ≡ run_grammar) }
 {
     let workers = Arg::new(alloc, "workers").long("workers");
+    let live = Arg::new(alloc, "live").long("live");
     clap::Command::new(alloc, "run")
         .arg(word(alloc, "topology"))?
         .arg(workers)?
         .arg(flag(alloc, "acks"))?
-        .arg(flag(alloc, "steps"))
+        .arg(flag(alloc, "steps"))?
+        .arg(live)
 }
 
 /// A word that has to be there.

@@ -49,19 +49,22 @@ use Rattle.run_pipe.specs.Ends.{HasEnded, HasMemory}
 use Rattle.run_pipe.specs.Idle.{IsIdle}
 use Rattle.run_pipe.specs.declared.ends.RunEnd.{RunEnd}
 use Rattle.run_pipe.specs.Away.{away_in}
+use Rattle.run_pipe.specs.Watches.{KeepsWatch}
 use Rattle.run_pipe.specs.Whole.{IsWhole}
 use Rattle.run_pipe.specs.Seen.{PipeState, away_of}
 use Rattle.run_pipe.specs.Stems.{Stems, KeepsClockTo, KeepsControlTo, IsOfPost}
 use Rattle.run_pipe.specs.Jobs.{IsLoadOf, IsBrought}
 use Rattle.run_pipe.specs.Rounded.{Rounded}
-use Rattle.run_pipe.specs.Rounds.{Goes, IsOn, IsOver, IsWaiting, HasPaused, begins_job, round_of, end_of}
+use Rattle.run_pipe.specs.Rounds.{Goes, GoesOn, IsOn, IsOver, IsWaiting, HasPaused, begins_job, round_of, end_of}
 use Rattle.stage_workers.specs.Rounds.{IfJob, job_post}
 use Rattle.stage_workers.specs.declared.shift.Round.{Round}
+use Rattle.stage_workers.specs.declared.shift.Round.TheVariants.{Job, Waits, Again, Ended}
 use Rattle.run_pipe.proofs.Gone.{some_same, moves, IsPlaced}
 use Rattle.run_pipe.proofs.Backs.{if_some, IsBackNow}
 use Rattle.run_pipe.proofs.Idles.{idle_on, waiting_row, paused_row}
 use Rattle.run_pipe.proofs.Outs.{outs_on, second_false}
 use Rattle.run_pipe.proofs.Homing.{Brings, backs, not_going}
+use Rattle.run_pipe.proofs.Watching.{watch_through}
 
 abbrev pub Came : Type 0 → Type 0
 Came B = Result (Next B) AllocError
@@ -219,6 +222,12 @@ on_by (Ok next.Drained) o = absurd o
 on_by (Ok next.Halted) o = absurd o
 on_by (Err e) o = absurd o
 
+goes_on : {L : Type 0} (round : Round L) (end : Option (Result RunEnd AllocError)) → end ≡ None → GoesOn round end
+goes_on (Job load) end e = λ memory. e
+goes_on Waits end e = e
+goes_on Again end e = e
+goes_on Ended end e = e
+
 over_by : {B : Type 0} (came : Came B) → IsOver (round_of came) → IsSome (end_of came)
 over_by (Ok (next.Job load)) o = absurd o
 over_by (Ok next.JobsOut) o = absurd o
@@ -324,8 +333,9 @@ module _ {B : Type 0} (look : B → BodySeen) (brought : Option (Home B)) (came 
       (λ (u : (old.home at ≡ None) × (option_map place_at (post_of brought) ≢ Some at)). s.only_posts at was u.0)
       ((h.homes at).0 none)
 
-  pub stems_on : new.topology ≡ old.topology → new.places ≡ old.places → old.end ≡ None → new.end ≡ end_of came → Stems opened new
-  stems_on topology places going end = record {
+  pub stems_on : new.topology ≡ old.topology → new.places ≡ old.places → old.end ≡ None → new.end ≡ end_of came → KeepsWatch old.watch new.watch → Stems opened new
+  stems_on topology places going end kept = record {
+    watch = watch_through opened.watch old.watch new.watch s.watch kept;
     topology = topology ∙ s.topology;
     places = places ∙ s.places;
     begins = begins_through new.steps old.steps opened.steps h.adds.begins s.begins;
@@ -351,7 +361,7 @@ slots_low look opened steps None b = tt
 slots_low look opened steps (Some home) b = b.slot
 
 module _ {B : Type 0} (look : B → BodySeen) (brought : Option (Home B)) (came : Came B) (old new : PipeState) (g : Brings look brought old) (held : Held look brought came old.topology old new) (topology : new.topology ≡ old.topology)
-    (places : new.places ≡ old.places) (going : old.end ≡ None) (end : new.end ≡ end_of came) where
+    (places : new.places ≡ old.places) (going : old.end ≡ None) (end : new.end ≡ end_of came) (kept : KeepsWatch old.watch new.watch) where
   at_opened : (opened : PipeState) → Stems opened old → Held look brought came opened.topology old new
   at_opened opened s = subst (λ (t : Topology). Held look brought came t old new) s.topology held
 
@@ -390,13 +400,13 @@ module _ {B : Type 0} (look : B → BodySeen) (brought : Option (Home B)) (came 
   holds_round round w is =
       let same : job_of came ≡ job_post (λ (load : Load B). load.job.post) round = same_job came ∙ ap (job_post (λ (load : Load B). load.job.post)) (sym is) in
       record {
-        stems = λ opened seen s b. stems_on look brought came opened old new (at_opened opened s) s (back opened seen s b) topology places going end;
+        stems = λ opened seen s b. stems_on look brought came opened old new (at_opened opened s) s (back opened seen s b) topology places going end kept;
         load = λ opened seen s b. subst (λ (r : Round (Load B)). IfJob r (IsLoadOf look opened new.steps)) (sym is) (loads look brought came opened old new (at_opened opened s) s (back opened seen s b) (places ∙ s.places));
         adds = subst (λ (j : Option Post). AddsHold (post_of brought) j old.steps new.steps) same held.adds;
         recorded = λ start memory. where_held came (IsRecorded old.topology old.steps new.steps brought) (subst HasMemory end memory) held.recorded;
         always = held.always;
         ended = λ some. not_going old.end some going;
-        on = λ o. (going, end ∙ on_by came (subst IsOn is o));
+        on = λ o. (going, goes_on round new.end (end ∙ on_by came (subst IsOn is o)));
         over = λ o. subst (λ (e : Option (Result RunEnd AllocError)). IsSome e) (sym end) (over_by came (subst IsOver is o));
         whole = holds_whole w;
         waits = λ w. subst (λ (t : Topology). (move t new.steps ≡ next_move.JobsOut) × (jobs_out t new.steps ≡ true)) (sym topology) (waiting_by old.topology new.steps came held.legal held.free held.by_move (subst IsWaiting is w));

@@ -27,6 +27,7 @@ use Rattle.stage_holds.specs.declared.loads.Home.{Home}
 use Rattle.run_pipe.specs.declared.ends.RunEnd.{RunEnd}
 use Rattle.run_pipe.specs.Away.{away_in}
 use Rattle.run_pipe.specs.Ends.{HasEnded, HasMemory}
+use Rattle.run_pipe.specs.Watches.{WatchSeen, KeepsWatch}
 use Rattle.run_pipe.specs.Whole.{IsWhole}
 use Rattle.run_pipe.specs.Seen.{PipeState, away_of}
 use Rattle.run_pipe.specs.Stems.{Stems, KeepsClockTo, KeepsControlTo}
@@ -36,6 +37,7 @@ use Rattle.stage_holds.specs.declared.loads.Load.{Load}
 use Rattle.stage_workers.specs.declared.shift.Round.{Round}
 use Rattle.stage_workers.specs.declared.shift.Round.TheVariants.{Ended}
 use Rattle.run_pipe.proofs.Gone.{moves}
+use Rattle.run_pipe.proofs.Watching.{watch_through}
 use Rattle.run_pipe.proofs.Outs.{none_out_ended}
 use Rattle.run_pipe.proofs.Backs.{if_some, IsBackNow, brought_now, adds_nothing}
 
@@ -132,16 +134,16 @@ none_is at e = none-some at e
 
 -- ---- the pipe
 
--- what comes home to a pipe with these steps and bodies
-abbrev pub with_home : PipeState → Topology → History → (ℕ → Option BodySeen) → (places : ℕ) → PipeState
-with_home p topology after back places = record p { topology = topology; steps = after; home = back; places = places }
+-- what comes home to a pipe with these steps and bodies, and this watch
+abbrev pub with_home : PipeState → Topology → History → (ℕ → Option BodySeen) → (places : ℕ) → WatchSeen → PipeState
+with_home p topology after back places watch = record p { topology = topology; steps = after; home = back; places = places; watch = watch }
 
 -- a job has come home to a pipe that has ended
-module _ {B T F : Type 0} (look : B → BodySeen) (home : Home B) (p : PipeState) (topology : Topology) (after : History) (back : ℕ → Option BodySeen) (places : ℕ) (result : Result T F)
+module _ {B T F : Type 0} (look : B → BodySeen) (home : Home B) (p : PipeState) (topology : Topology) (after : History) (back : ℕ → Option BodySeen) (places : ℕ) (watch : WatchSeen) (result : Result T F)
     (w : IsWhole p) (g : Brings look (Some home) p) (ended : IsSome p.end) (same : topology ≡ p.topology) (same_places : places ≡ p.places) (legal : is_legal p.topology after ≡ true)
-    (c : Comes result home.post home.answer (look home.body) p.topology p.steps p.home after back) where
+    (c : Comes result home.post home.answer (look home.body) p.topology p.steps p.home after back) (kept : KeepsWatch p.watch watch) where
   abbrev pub new : PipeState
-  new = with_home p topology after back places
+  new = with_home p topology after back places watch
 
   first : IsBackNow look g.opened p.steps home
   first = backs look (Some home) g.opened p g.seen g.sound g.legal g.stems g.is_brought
@@ -150,7 +152,7 @@ module _ {B T F : Type 0} (look : B → BodySeen) (home : Home B) (p : PipeState
   out = subst (λ (q : Post). is_out p.steps q ≡ true) (sym first.back.post) first.back.away.out
 
   -- the pipe has ended for want of memory, since a job was out
-  no_memory : HasMemory p.end → ⊥
+  pub no_memory : HasMemory p.end → ⊥
   no_memory memory = none_out_ended p.topology p.steps p.end g.sound g.legal ended w.ended memory home.post out
 
   short_ended : (end : Option (Result RunEnd AllocError)) → (HasMemory end → ⊥) → IfSome end (λ e. IfOk e (HasEnded topology after))
@@ -180,6 +182,7 @@ module _ {B T F : Type 0} (look : B → BodySeen) (home : Home B) (p : PipeState
             (λ (u : (p.home at ≡ None) × (option_map place_at (Some home.post) ≢ Some at)). s.only_posts at was u.0) ((c.homes at).0 none);
         clock = clock_answered p.end p.steps after opened.clock p.clock c.adds_answer.same_time c.adds_answer.same_still c.adds_answer.same_jobs s.clock;
         control = control_answered p.end opened.topology p.steps after opened.control p.control on.adds_answer s.control;
+        watch = watch_through opened.watch p.watch watch s.watch kept;
       }
 
   pub one_home : Rounded look (Some home) Ended p new

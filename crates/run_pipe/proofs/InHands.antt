@@ -1,7 +1,8 @@
 -- One worker: what it has in hand between two holds.
-use Rattle.std.proofs.Common.{◌≡◌, ◌≢◌, ⊎_elim, ◌<◌, ◌≤◌, List, [], ◌∷◌, Bool, true, false, arith, refl, sym, ap, ◌∙◌, subst, Option, Some, None, Contains}
+use Rattle.std.proofs.Common.{◌≡◌, ◌≢◌, ⊎_elim, ◌<◌, ◌≤◌, List, [], ◌∷◌, Bool, true, false, arith, refl, sym, ap, ◌∙◌, subst, Option, Some, None, Result, Contains}
 use Rattle.std.specs.Prelude.{◌||◌, IfSome, IsSome, is_some}
 use Rattle.std.specs.List.{list_any}
+use Rattle.std.specs.declared.alloc.AllocError.{AllocError}
 use Rattle.pipe_types.specs.declared.numbers.Post.{Post}
 use Rattle.pipe_types.specs.declared.topology.Topology.{Topology}
 use Rattle.pipe_types.specs.declared.topology.StageSpec.{StageSpec}
@@ -27,7 +28,8 @@ use Rattle.run_pipe.specs.Measure.{holds_left}
 use Rattle.run_pipe.specs.Stems.{Stems}
 use Rattle.run_pipe.specs.Jobs.{IsLoadOf, IsHomeOf, IsBrought}
 use Rattle.run_pipe.specs.Rounded.{Rounded}
-use Rattle.run_pipe.specs.Rounds.{IsOn}
+use Rattle.run_pipe.specs.Rounds.{GoesOn, IsOn}
+use Rattle.run_pipe.specs.declared.ends.RunEnd.{RunEnd}
 use Rattle.run_pipe.specs.Runs.{RanToEnd}
 use Rattle.run_pipe.proofs.Backs.{if_some, worked}
 use Rattle.run_pipe.proofs.Outs.{no_truth}
@@ -43,9 +45,9 @@ pub record IsLimited {B : Type 0} (now : PipeState) (brought : Option (Home B)) 
   pub limit : 1 ≤ now.topology.idle_limit
   pub row : IsSome brought → quiet_row now.steps < now.topology.idle_limit
 
--- a pipe that had not ended has not, and no row of quiet answers is longer than the limit
+-- a pipe that had not ended has not, unless memory was wanting, and no row of quiet answers is longer than the limit
 abbrev pub RowsFrom : (first now : PipeState) → Type 0
-RowsFrom first now = first.end ≡ None → RowsWithin now.topology.idle_limit first.steps → (now.end ≡ None) × RowsWithin now.topology.idle_limit now.steps
+RowsFrom first now = first.end ≡ None → HasMemory now.end → RowsWithin now.topology.idle_limit first.steps → (now.end ≡ None) × RowsWithin now.topology.idle_limit now.steps
 
 pub record InHandLimited {B : Type 0} (look : B → BodySeen) (first now : PipeState) (brought : Option (Home B)) : Type 0 where
   pub hand : InHand look first now brought
@@ -54,6 +56,12 @@ pub record InHandLimited {B : Type 0} (look : B → BodySeen) (first now : PipeS
 
 not_in_none : {A : Type 0} (p : Post) → Contains [] p → A
 not_in_none p c = let l = c.1 in absurd (omega arith)
+
+goes_by : {L : Type 0} (round : Round L) (end : Option (Result RunEnd AllocError)) → IsOn round → GoesOn round end → HasMemory end → end ≡ None
+goes_by (Job load) end on e memory = e memory
+goes_by Waits end on e memory = e
+goes_by Again end on e memory = e
+goes_by Ended end on e memory = e
 
 none_in : (xs : List Post) → ((q : Post) → Contains xs q → ⊥) → xs ≡ []
 none_in [] none = refl
@@ -165,13 +173,21 @@ module _ {B : Type 0} (look : B → BodySeen) (first now : PipeState) (brought :
     pub less_again : Rounded look brought Again now new → (opened : PipeState) × Stems opened first → IsLimited now brought → holds_left new.topology new.steps false < holds_left now.topology now.steps (is_some brought)
     less_again r o l = subst (λ (t : Topology). holds_left t new.steps false < holds_left now.topology now.steps (is_some brought)) (sym (same Again r o)) (r.lessens l.row tt)
 
+    -- a pipe that has the memory had it before
+    had_memory : (round : Round (Load B)) → Rounded look brought round now new → HasMemory new.end → HasMemory now.end
+    had_memory round r wanting = by now.end refl
+      where
+        by : (end : Option (Result RunEnd AllocError)) → now.end ≡ end → HasMemory now.end
+        by None e = subst HasMemory (sym e) tt
+        by (Some end) e = subst HasMemory (r.ended (subst IsSome (sym e) refl)).0 wanting
+
     -- rows of quiet answers
     pub rows_then : (round : Round (Load B)) → Rounded look brought round now new → (opened : PipeState) × Stems opened first → IsLimited now brought → RowsFrom first now
         → first.end ≡ None → HasMemory new.end → RowsWithin new.topology.idle_limit first.steps → RowsWithin new.topology.idle_limit new.steps
     rows_then round r o l before going wanting rows =
         let topology = same round r o in
-        let k = before going (subst (λ (t : Topology). RowsWithin t.idle_limit first.steps) topology rows) in
+        let k = before going (had_memory round r wanting) (subst (λ (t : Topology). RowsWithin t.idle_limit first.steps) topology rows) in
         subst (λ (t : Topology). RowsWithin t.idle_limit new.steps) (sym topology) (r.rows k.0 wanting l.limit l.row k.1)
 
     pub rows_on : (round : Round (Load B)) → IsOn round → Rounded look brought round now new → (opened : PipeState) × Stems opened first → IsLimited now brought → RowsFrom first now → RowsFrom first new
-    rows_on round on r o l before going rows = ((r.on on).1, rows_then round r o l before going (memory (r.on on).1) rows)
+    rows_on round on r o l before going wanting rows = (goes_by round new.end on (r.on on).1 wanting, rows_then round r o l before going wanting rows)

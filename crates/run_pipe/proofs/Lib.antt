@@ -1,4 +1,5 @@
 mod Views
+mod Watching
 mod Measures
 mod Gone
 mod InHands
@@ -9,6 +10,7 @@ mod Homing
 mod Going
 mod Starts
 mod Outcomes
+mod CutShort
 mod Serving
 pub use Rattle.stage_holds.proofs.Kept
 pub use Rattle.stage_holds.proofs.Obeying

@@ -61,6 +61,7 @@ has_ended opened p end s w none is = record {
   keeps = s.keeps;
   stay = all_stay opened p s none;
   clock = clock_on end p.steps opened.clock p.clock (subst (λ (e : Option (Result RunEnd AllocError)). KeepsClockTo e p.steps opened.clock p.clock) is s.clock);
+  watch = s.watch;
   control = control_on end opened.topology p.steps opened.control p.control (subst (λ (e : Option (Result RunEnd AllocError)). KeepsControlTo e opened.topology p.steps opened.control p.control) is s.control);
   idle = idle_at opened p end s w is;
   ended = subst (λ (t : Topology). IfOk end (HasEnded t p.steps)) s.topology (subst (λ (e : Option (Result RunEnd AllocError)). IfSome e (λ end. IfOk end (HasEnded p.topology p.steps))) is w.ended);
@@ -91,17 +92,21 @@ short_of p error = record p { end = Some (Err error) }
 pub short_whole : (p : PipeState) (error : AllocError) → IsWhole p → IsWhole (short_of p error)
 short_whole p error w = record { follows = w.follows; ready = w.ready; ended = tt; outs = λ memory. absurd memory; idle = λ memory. absurd memory }
 
+pub short_stems : (opened p : PipeState) (error : AllocError) → Stems opened p → Stems opened (short_of p error)
+short_stems opened p error s = record {
+  topology = s.topology;
+  places = s.places;
+  begins = s.begins;
+  keeps = s.keeps;
+  only_posts = s.only_posts;
+  clock = clock_partly p.end p.steps opened.clock p.clock s.clock;
+  control = control_partly p.end opened.topology p.steps opened.control p.control s.control;
+  watch = s.watch;
+}
+
 pub short_ran : (p : PipeState) (error : AllocError) → IsWhole p → away_of p ≡ [] → RanToEnd p (short_of p error)
 short_ran p error w none = record {
-  stems = λ opened s. record {
-    topology = s.topology;
-    places = s.places;
-    begins = s.begins;
-    keeps = s.keeps;
-    only_posts = s.only_posts;
-    clock = clock_partly p.end p.steps opened.clock p.clock s.clock;
-    control = control_partly p.end opened.topology p.steps opened.control p.control s.control;
-  };
+  stems = λ opened s. short_stems opened p error s;
   begins = begins_itself p.steps;
   over = refl;
   none_away = none;

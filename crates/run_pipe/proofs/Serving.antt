@@ -1,6 +1,6 @@
 -- A worker that does its job while it has the pipe, and holds it again.
 use Rattle.std.proofs.Common.{◌≡◌, ◌≢◌, ⊎_elim, inl, inr, Bool, true, false, refl, sym, ap, ◌∙◌, subst, Option, Some, None, Result, Ok, Err, Contains}
-use Rattle.std.specs.Prelude.{IfSome, IfOk}
+use Rattle.std.specs.Prelude.{IfSome, IfOk, IsSome}
 use Rattle.std.specs.declared.alloc.AllocError.{AllocError}
 use Rattle.pipe_types.specs.declared.numbers.Post.{Post}
 use Rattle.pipe_model.specs.Begins.{BeginsWith}
@@ -19,17 +19,16 @@ use Rattle.stage_holds.specs.declared.loads.Home.{Home}
 use Rattle.stage_workers.specs.Rounds.{brought_post, job_post}
 use Rattle.stage_workers.specs.declared.shift.Round.{Round}
 use Rattle.stage_workers.specs.declared.shift.Round.TheVariants.{Job}
+use Rattle.run_pipe.specs.declared.ends.RunEnd.{RunEnd}
 use Rattle.run_pipe.specs.Ends.{HasMemory}
 use Rattle.run_pipe.specs.Jobs.{IsLoadOf, IsBrought}
 use Rattle.run_pipe.specs.Rounded.{Rounded, IsRecorded}
-use Rattle.run_pipe.specs.Rounds.{IsOn}
 use Rattle.run_pipe.specs.Seen.{PipeState, away_of}
 use Rattle.run_pipe.specs.Serves.{Serves}
 use Rattle.run_pipe.specs.Stems.{Stems}
 use Rattle.run_pipe.specs.Whole.{IsWhole}
 use Rattle.run_pipe.proofs.Backs.{brought_recorded, worked}
 use Rattle.run_pipe.proofs.Gone.{away_from}
-use Rattle.run_pipe.proofs.Homing.{not_going}
 use Rattle.run_pipe.proofs.Outs.{no_truth}
 
 -- one hold
@@ -57,11 +56,16 @@ not_begun own job old new q begun out other e =
 
 -- ---- what is recorded stays so
 
-recorded_on : {B : Type 0} (old middle new : PipeState) (home : Home B) → middle.end ≡ None → BeginsWith new.steps middle.steps → IsRecorded old middle home → IsRecorded old new home
-recorded_on old middle new home going begins r = record {
-  recorded = λ on memory. kept home.answer (r.recorded on (subst HasMemory (sym going) tt));
+-- a pipe that has the memory had it before
+had_memory : (old new : Option (Result RunEnd AllocError)) → (IsSome old → new ≡ old) → HasMemory new → HasMemory old
+had_memory None new stays memory = tt
+had_memory (Some end) new stays memory = subst HasMemory (stays refl) memory
+
+recorded_on : {B : Type 0} (old middle new : PipeState) (home : Home B) → (IsSome middle.end → new.end ≡ middle.end) → BeginsWith new.steps middle.steps → IsRecorded old middle home → IsRecorded old new home
+recorded_on old middle new home stays begins r = record {
+  recorded = λ on memory. kept home.answer (r.recorded on (had_memory middle.end new.end stays memory));
   always = kept_always home.answer r.always;
-  cut_off = λ cut. not_going middle.end (r.cut_off cut) going;
+  cut_off = λ cut. subst (λ (e : Option (Result RunEnd AllocError)). IsSome e) (sym (stays (r.cut_off cut))) (r.cut_off cut);
 }
   where
     kept : (answer : Result Answer AllocError) → IfOk answer (λ a. BeginsWith middle.steps (with_answered old.topology old.steps a)) → IfOk answer (λ a. BeginsWith new.steps (with_answered old.topology old.steps a))
@@ -73,9 +77,9 @@ recorded_on old middle new home going begins r = record {
     kept_always (Ok a) b = λ none. begins_through new.steps middle.steps (with_answered old.topology old.steps a) begins (b none)
     kept_always (Err e) b = tt
 
-all_recorded_on : {B : Type 0} (brought : Option (Home B)) (old middle new : PipeState) → middle.end ≡ None → BeginsWith new.steps middle.steps → IfSome brought (λ home. IsRecorded old middle home) → IfSome brought (λ home. IsRecorded old new home)
-all_recorded_on None old middle new going begins r = tt
-all_recorded_on (Some home) old middle new going begins r = recorded_on old middle new home going begins r
+all_recorded_on : {B : Type 0} (brought : Option (Home B)) (old middle new : PipeState) → (IsSome middle.end → new.end ≡ middle.end) → BeginsWith new.steps middle.steps → IfSome brought (λ home. IsRecorded old middle home) → IfSome brought (λ home. IsRecorded old new home)
+all_recorded_on None old middle new stays begins r = tt
+all_recorded_on (Some home) old middle new stays begins r = recorded_on old middle new home stays begins r
 
 -- ---- one hold more
 
@@ -132,8 +136,8 @@ module _ {B : Type 0} (look : B → BodySeen) (brought : Option (Home B)) (old m
             (λ (v : Contains (away_of old) q × (own ≢ Some q)). (r.away q).1 (inr ((s.away q).1 (inr v), other_than q (away_is_out q v.0) v.1))),
       )
 
-      pub served_on : middle.end ≡ None → Serves look brought round old new
-      served_on going = record {
+      pub served_on : Serves look brought round old new
+      served_on = record {
         stems = λ opened seen t b. r.stems opened middle.steps (s.stems opened seen t b) (brings opened (s.load opened seen t b));
         load = λ opened seen t b. r.load opened middle.steps (s.stems opened seen t b) (brings opened (s.load opened seen t b));
         adds = record {
@@ -141,22 +145,6 @@ module _ {B : Type 0} (look : B → BodySeen) (brought : Option (Home B)) (old m
           others_unanswered = unanswered;
           own_job = own_job job r.adds.own_job;
         };
-        recorded = all_recorded_on brought old middle new going r.adds.begins s.recorded;
+        recorded = all_recorded_on brought old middle new (λ some. (r.ended some).0) r.adds.begins s.recorded;
         away = away;
       }
-
--- ---- in a loop of holds
-
--- the holds so far, behind which the pipe goes on where there is more to do
-pub record Serving {B : Type 0} (look : B → BodySeen) (brought : Option (Home B)) (round : Round (Load B)) (old now : PipeState) : Type 0 where
-  pub serves : Serves look brought round old now
-  pub going : IsOn round → now.end ≡ None
-
-pub serving_first : {B : Type 0} (look : B → BodySeen) (brought : Option (Home B)) (round : Round (Load B)) (old now : PipeState) → Rounded look brought round old now → Serving look brought round old now
-serving_first look brought round old now r = record { serves = served_once look brought round old now r; going = λ on. (r.on on).1 }
-
-pub serving_on : {B : Type 0} (look : B → BodySeen) (brought : Option (Home B)) (old middle : PipeState) (load : Load B) → Serving look brought (Job load) old middle
-    → (home : Home B) → home.post ≡ load.job.post → IsOutcomeOf load.job home.answer (look load.body) (look home.body)
-    → (round : Round (Load B)) (new : PipeState) → Rounded look (Some home) round middle new → IsWhole old → Serving look brought round old new
-serving_on look brought old middle load s home same outcome round new r w =
-    record { serves = served_on look brought old middle load s.serves home same outcome round new r w (s.going tt); going = λ on. (r.on on).1 }

@@ -22,6 +22,7 @@ use Rattle.run_pipe.specs.Seen.{PipeState, away_of}
 use Rattle.run_pipe.specs.Stems.{Stems}
 use Rattle.run_pipe.specs.Whole.{IsWhole}
 use Rattle.run_pipe.proofs.Gone.{place_of_post}
+use Rattle.run_pipe.proofs.Watching.{watch_itself}
 
 -- an unused pipe
 pub record IsFirst (p : PipeState) : Type 0 where
@@ -54,6 +55,7 @@ stems_itself p u = record {
   keeps = subst (λ (h : History). Keeps p.topology h p.home p.home) (sym u.empty) (starts p.topology p.home u.filled);
   only_posts = λ at was none. not_none (p.home at) _ was none;
   clock = rw u.going (subst (λ (h : History). KeepsClock h p.clock p.clock) (sym u.empty) (clock_starts p.clock));
+  watch = watch_itself p.watch;
   control = rw u.going (subst (λ (h : History). KeepsControl p.topology h 0 p.control p.control) (sym u.empty) (fresh_control p.topology p.control u.fresh));
 }
 

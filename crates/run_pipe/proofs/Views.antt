@@ -9,6 +9,7 @@ use Rattle.stage_bodies.specs.Seen.{BodySeen, LineSeen, body_at, looked}
 use Rattle.stage_holds.specs.Clocks.{ClockSeen}
 use Rattle.run_pipe.specs.declared.ends.RunEnd.{RunEnd}
 use Rattle.run_pipe.specs.Seen.{PipeState, PipeSeen, state_of}
+use Rattle.run_pipe.specs.Watches.{WatchSeen}
 
 looked_map : {B : Type 0} (look : B → BodySeen) (x : Option (Option B)) → looked (λ b. b) (option_map (option_map look) x) ≡ looked look x
 looked_map look None = refl
@@ -23,15 +24,15 @@ same_length f [] = refl
 same_length f (x ∷ xs) = ap suc (same_length f xs)
 
 -- what the fields of a pipe come to
-abbrev pub fields_of : {B : Type 0} (look : B → BodySeen) → Topology → History → List (Option B) → Option LineSeen → ClockSeen → Option (Result RunEnd AllocError) → PipeState
-fields_of look topology steps items control clock end =
-    record { topology = topology; steps = steps; home = body_at look items; places = length items; control = control; clock = clock; end = end }
+abbrev pub fields_of : {B : Type 0} (look : B → BodySeen) → Topology → History → List (Option B) → Option LineSeen → ClockSeen → WatchSeen → Option (Result RunEnd AllocError) → PipeState
+fields_of look topology steps items control clock watch end =
+    record { topology = topology; steps = steps; home = body_at look items; places = length items; control = control; clock = clock; watch = watch; end = end }
 
-pub state_is : {B : Type 0} (look : B → BodySeen) (topology : Topology) (steps : History) (items : List (Option B)) (control : Option LineSeen) (clock : ClockSeen) (end : Option (Result RunEnd AllocError))
-    → state_of (record { topology = topology; steps = steps; bodies = map (option_map look) items; control = control; clock = clock; end = end }) ≡ fields_of look topology steps items control clock end
-state_is look topology steps items control clock end =
-    λ i. record { topology = topology; steps = steps; home = same_home look items i; places = same_length (option_map look) items i; control = control; clock = clock; end = end }
+pub state_is : {B : Type 0} (look : B → BodySeen) (topology : Topology) (steps : History) (items : List (Option B)) (control : Option LineSeen) (clock : ClockSeen) (watch : WatchSeen) (end : Option (Result RunEnd AllocError))
+    → state_of (record { topology = topology; steps = steps; bodies = map (option_map look) items; control = control; clock = clock; watch = watch; end = end }) ≡ fields_of look topology steps items control clock watch end
+state_is look topology steps items control clock watch end =
+    λ i. record { topology = topology; steps = steps; home = same_home look items i; places = same_length (option_map look) items i; control = control; clock = clock; watch = watch; end = end }
 
-abbrev pub seen_of : {B : Type 0} (look : B → BodySeen) → Topology → History → List (Option B) → Option LineSeen → ClockSeen → Option (Result RunEnd AllocError) → PipeSeen
-seen_of look topology steps items control clock end =
-    record { topology = topology; steps = steps; bodies = map (option_map look) items; control = control; clock = clock; end = end }
+abbrev pub seen_of : {B : Type 0} (look : B → BodySeen) → Topology → History → List (Option B) → Option LineSeen → ClockSeen → WatchSeen → Option (Result RunEnd AllocError) → PipeSeen
+seen_of look topology steps items control clock watch end =
+    record { topology = topology; steps = steps; bodies = map (option_map look) items; control = control; clock = clock; watch = watch; end = end }

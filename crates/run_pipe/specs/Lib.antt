@@ -1,6 +1,7 @@
 pub mod Away
 pub mod Ends
 pub mod Idle
+pub mod Watches
 pub mod Seen
 pub mod Parts
 pub mod Whole

@@ -7,10 +7,11 @@ use Rattle.stage_bodies.specs.Seen.{BodySeen, LineSeen, body_at}
 use Rattle.stage_holds.specs.Clocks.{ClockSeen}
 use Rattle.run_pipe.specs.declared.ends.RunEnd.{RunEnd}
 use Rattle.run_pipe.specs.Seen.{PipeState}
+use Rattle.run_pipe.specs.Watches.{WatchSeen}
 
-module _ {B S C : Type 0} (look : B → BodySeen) (line : LineSource S → LineSeen) (time : C → ClockSeen) where
-  abbrev pub state_by : Core → List (Option B) → Option (LineSource S) → C → Option (Result RunEnd AllocError) → PipeState
-  state_by core bodies control clock end =
+module _ {B S C W : Type 0} (look : B → BodySeen) (line : LineSource S → LineSeen) (time : C → ClockSeen) (view : W → WatchSeen) where
+  abbrev pub state_by : Core → List (Option B) → Option (LineSource S) → C → W → Option (Result RunEnd AllocError) → PipeState
+  state_by core bodies control clock watch end =
       record {
         topology = core.topology;
         steps = core.journal.steps;
@@ -18,5 +19,6 @@ module _ {B S C : Type 0} (look : B → BodySeen) (line : LineSource S → LineS
         places = length bodies;
         control = option_map line control;
         clock = time clock;
+        watch = view watch;
         end = end;
       }

@@ -20,7 +20,7 @@ use Rattle.run_pipe.specs.Stems.{Stems}
 use Rattle.run_pipe.specs.Jobs.{IsLoadOf, IsBrought}
 use Rattle.run_pipe.specs.Ends.{HasMemory}
 use Rattle.run_pipe.specs.Whole.{IsWhole}
-use Rattle.run_pipe.specs.Rounds.{Goes, IsOn, IsOver, IsWaiting, HasPaused, begins_job}
+use Rattle.run_pipe.specs.Rounds.{Goes, GoesOn, IsOn, IsOver, IsWaiting, HasPaused, begins_job}
 use Rattle.stage_workers.specs.Rounds.{IfJob, job_post, brought_post}
 use Rattle.stage_workers.specs.declared.shift.Round.{Round}
 
@@ -40,7 +40,7 @@ pub record IsRecorded {B : Type 0} (old new : PipeState) (home : Home B) : Type 
 -- any case. Where it had ended, it has ended so still, and nothing but the answer was added; and it ends where the answer is that a job
 -- was cut off. At most one step is of the control source. A
 -- post is away where the worker goes away with its body, or where it was away and was not brought.
--- The pipe has ended just where there is nothing to do any more, and is whole. The worker waits where the next move is to wait for
+-- The pipe has ended just where there is nothing to do any more, or where memory was wanting for the watch behind a job that was begun, and is whole. The worker waits where the next move is to wait for
 -- the jobs that are out, and lets time pass where it was a pause: then the clock has paused. Where it brings an answer that is work, and begins a job or lets
 -- time pass, fewer holds are left. Where it finds a shorter row of quiet answers, no row grows beyond the idle limit.
 pub record Rounded {B : Type 0} (look : B → BodySeen) (brought : Option (Home B)) (round : Round (Load B)) (old new : PipeState) : Type 0 where
@@ -53,7 +53,7 @@ pub record Rounded {B : Type 0} (look : B → BodySeen) (brought : Option (Home 
   pub one_line : controls new.steps ≤ controls old.steps + 1
   pub ended : IsSome old.end → (new.end ≡ old.end) × AddsOnly old.topology old.steps new.steps brought
   pub away : AreAway (brought_post (λ home. home.post) brought) (job_post (λ load. load.job.post) round) (away_of old) (away_of new)
-  pub on : IsOn round → (old.end ≡ None) × (new.end ≡ None)
+  pub on : IsOn round → (old.end ≡ None) × GoesOn round new.end
   pub over : IsOver round → IsSome new.end
   pub whole : IsWhole new
   pub waits : IsWaiting round → (move new.topology new.steps ≡ JobsOut) × (jobs_out new.topology new.steps ≡ true)

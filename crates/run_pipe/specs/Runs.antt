@@ -12,6 +12,7 @@ use Rattle.run_pipe.specs.Ends.{HasEnded, HasMemory}
 use Rattle.run_pipe.specs.Idle.{HasIdleRows}
 use Rattle.run_pipe.specs.Seen.{PipeState, away_of}
 use Rattle.run_pipe.specs.Stems.{Stems}
+use Rattle.run_pipe.specs.Watches.{KeepsWatch}
 use Rattle.run_pipe.specs.Whole.{IsWhole}
 
 -- the pipe comes from each start still that it came from, with steps added; it has ended, and each body is at home
@@ -27,7 +28,7 @@ abbrev pub IsIdleWithin : (old new : PipeState) → Type 0
 IsIdleWithin old new = old.end ≡ None → HasMemory new.end → RowsWithin new.topology.idle_limit old.steps → RowsWithin new.topology.idle_limit new.steps
 
 -- steps were added, each of the pipeline's own as the next move when it came; the bodies, the control source and the clock stand where the
--- journal leaves them; each body that was at home is; where there is an idle limit, the rows of quiet answers keep to it up to the drain;
+-- journal leaves them; each body that was at home is; the watch began as it did; where there is an idle limit, the rows of quiet answers keep to it up to the drain;
 -- and the run ended as it says
 pub record HasRun (opened final : PipeState) (end : Result RunEnd AllocError) : Type 0 where
   pub topology : final.topology ≡ opened.topology
@@ -37,5 +38,6 @@ pub record HasRun (opened final : PipeState) (end : Result RunEnd AllocError) : 
   pub stay : (at : ℕ) → IsSome (opened.home at) → IsSome (final.home at)
   pub clock : KeepsClockOn end final.steps opened.clock final.clock
   pub control : KeepsControlOn end opened.topology final.steps 0 opened.control final.control
+  pub watch : KeepsWatch opened.watch final.watch
   pub idle : OnOk end (1 ≤ opened.topology.idle_limit → HasIdleRows opened.topology.idle_limit final.steps)
   pub ended : IfOk end (HasEnded opened.topology final.steps)

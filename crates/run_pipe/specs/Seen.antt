@@ -8,14 +8,16 @@ use Rattle.stage_bodies.specs.Seen.{BodySeen, LineSeen, body_at}
 use Rattle.stage_holds.specs.Clocks.{ClockSeen}
 use Rattle.run_pipe.specs.declared.ends.RunEnd.{RunEnd}
 use Rattle.run_pipe.specs.Away.{away_in}
+use Rattle.run_pipe.specs.Watches.{WatchSeen}
 
--- its topology and its journal, the bodies by place, the control source, the clock, and how the run ended, if it has
+-- its topology and its journal, the bodies by place, the control source, the clock, the watch, and how the run ended, if it has
 pub record PipeSeen : Type 0 where
   pub topology : Topology
   pub steps : History
   pub bodies : List (Option BodySeen)
   pub control : Option LineSeen
   pub clock : ClockSeen
+  pub watch : WatchSeen
   pub end : Option (Result RunEnd AllocError)
 
 -- the same, with the bodies at home by place, and how many places they have
@@ -26,6 +28,7 @@ pub record PipeState : Type 0 where
   pub places : ℕ
   pub control : Option LineSeen
   pub clock : ClockSeen
+  pub watch : WatchSeen
   pub end : Option (Result RunEnd AllocError)
 
 abbrev pub state_of : PipeSeen → PipeState
@@ -37,6 +40,7 @@ state_of p =
       places = length p.bodies;
       control = p.control;
       clock = p.clock;
+      watch = p.watch;
       end = p.end;
     }
 

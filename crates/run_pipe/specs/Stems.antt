@@ -12,6 +12,7 @@ use Rattle.stage_holds.specs.Keeping.{KeepsControl, KeepsControlPartly}
 use Rattle.stage_holds.specs.Clocks.{ClockSeen, KeepsClock, KeepsClockPartly}
 use Rattle.run_pipe.specs.declared.ends.RunEnd.{RunEnd}
 use Rattle.run_pipe.specs.Seen.{PipeState}
+use Rattle.run_pipe.specs.Watches.{KeepsWatch}
 
 -- the journal keeps to the clock, and to the control source; in part where memory was wanting
 abbrev pub KeepsClockTo : Option (Result RunEnd AllocError) → History → (opened clock : ClockSeen) → Type 0
@@ -31,7 +32,7 @@ pub record IsOfPost (p : PipeState) (at : ℕ) : Type 0 where
   pub within : at < p.places
 
 -- It has the same topology and as many places, and its journal begins with that one; the bodies, the control source and the clock
--- stand where the journal leaves them, from what they were; and only places of posts were emptied
+-- stand where the journal leaves them, from what they were; only places of posts were emptied; and the watch began as that one did
 pub record Stems (opened p : PipeState) : Type 0 where
   pub topology : p.topology ≡ opened.topology
   pub places : p.places ≡ opened.places
@@ -40,3 +41,4 @@ pub record Stems (opened p : PipeState) : Type 0 where
   pub only_posts : (at : ℕ) → IsSome (opened.home at) → p.home at ≡ None → IsOfPost opened at
   pub clock : KeepsClockTo p.end p.steps opened.clock p.clock
   pub control : KeepsControlTo p.end opened.topology p.steps opened.control p.control
+  pub watch : KeepsWatch opened.watch p.watch

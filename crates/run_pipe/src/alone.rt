@@ -4,6 +4,7 @@ ghost use Rattle.std.specs.Prelude.{◌≡◌, ◌≤◌, []};
 ghost use Rattle.run_pipe.specs.{Runs.{RanToEnd, IsIdleWithin}, Seen.{PipeState, state_of, away_of}, Stems.{Stems}};
 
 use crate::pipe::Pipe;
+use crate::shown::Shown;
 use pipe_edges::{ByteSource, Clock};
 use stage_bodies::Works;
 use stage_workers::Round;
@@ -12,7 +13,7 @@ use std::sync::Wait;
 
 /// Has one worker hold the pipe and do its jobs until the pipe has ended. Where the topology has no idle limit, it may wait for its
 /// sources for ever.
-pub fn run_here<R: Wait, B: Works, S: ByteSource, C: Clock, W>(
+pub fn run_here<R: Wait, B: Works, S: ByteSource, C: Clock, W: Shown>(
     rt: &R,
     alloc: Global,
     pipe: &mut Pipe<B, S, C, W>,
@@ -31,7 +32,10 @@ pub fn run_here<R: Wait, B: Works, S: ByteSource, C: Clock, W>(
 }
 
 /// A run that returns: the topology has an idle limit, and each hold leaves fewer.
-pub fn run_to_end<B: Works, S: ByteSource, C: Clock, W>(alloc: Global, pipe: &mut Pipe<B, S, C, W>)
+pub fn run_to_end<B: Works, S: ByteSource, C: Clock, W: Shown>(
+    alloc: Global,
+    pipe: &mut Pipe<B, S, C, W>,
+)
     requires limit { 1 ≤ pipe.old.topology.idle_limit }
     requires stems { (opened : PipeState) × Stems opened (state_of pipe.old) }
     requires none_away { away_of (state_of pipe.old) ≡ [] }
@@ -50,7 +54,7 @@ pub fn run_to_end<B: Works, S: ByteSource, C: Clock, W>(alloc: Global, pipe: &mu
 }
 
 /// A run that may wait for its sources for ever.
-fn run_on<R: Wait, B: Works, S: ByteSource, C: Clock, W>(
+fn run_on<R: Wait, B: Works, S: ByteSource, C: Clock, W: Shown>(
     rt: &R,
     alloc: Global,
     pipe: &mut Pipe<B, S, C, W>,

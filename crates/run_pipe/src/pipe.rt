@@ -1,13 +1,14 @@
 //! The value that workers hand about.
 
-ghost use Rattle.std.specs.Prelude.{◌≡◌, [], None, Some, Err, IfSome, map, nat_le, option_map};
+ghost use Rattle.std.specs.Prelude.{◌≡◌, [], None, Some, Err, IfSome, false, map, nat_le, option_map};
 ghost use Rattle.core_state.specs.Stands.{Stands};
 ghost use Rattle.stage_bodies.specs.Seen.{body_at, line_seen};
 ghost use Rattle.body_laws.specs.Ready.{IsFilled};
 ghost use Rattle.stage_holds.specs.{Keeping.{IsFresh}, Clocks.{clock_seen}};
-ghost use Rattle.run_pipe.specs.{Parts.{state_by}, Runs.{RanToEnd}, Seen.{PipeSeen, state_of, away_of}, Stems.{Stems}, Whole.{IsPipe, IsWhole}};
+ghost use Rattle.run_pipe.specs.{Ends.{HasMemory}, Parts.{state_by}, Runs.{RanToEnd}, Seen.{PipeSeen, state_of, away_of}, Stems.{Stems}, Watches.{HasSeen}, Whole.{IsPipe, IsWhole}};
 
 use crate::ends::RunEnd;
+use crate::shown::Shown;
 use core_state::Core;
 use pipe_edges::{ByteSource, Clock, LineSource};
 use pipe_journal::Journal;
@@ -18,26 +19,28 @@ use std::alloc::AllocError;
 use std::marker::Model;
 
 /// A pipeline with the bodies that are at home, its control source, its clock and what is shown its journal.
-pub struct Pipe<B: Works, S: ByteSource, C: Clock, W> {
+pub struct Pipe<B: Works, S: ByteSource, C: Clock, W: Shown> {
     pub(crate) core: Core,
     /// By place.
     pub(crate) bodies: Vec<Option<B>>,
     pub(crate) control: Option<LineSource<S>>,
     pub(crate) clock: C,
     pub(crate) watch: W,
+    /// Whether the watch has failed. It is shown nothing any more then.
+    pub(crate) has_failed: bool,
     /// How the run ended, once it has. The error is want of memory.
     pub(crate) end: Option<Result<RunEnd, AllocError>>,
 }
 
-impl<B: Works, S: ByteSource, C: Clock, W> Model for Pipe<B, S, C, W> {
+impl<B: Works, S: ByteSource, C: Clock, W: Shown> Model for Pipe<B, S, C, W> {
     ghost Value = { PipeSeen };
 
-    ghost view = { λ p. record { topology = p.core.topology; steps = p.core.journal.steps; bodies = map (option_map B.look) p.bodies.items; control = option_map (line_seen S.ByteSource) p.control; clock = clock_seen C.latest C.readings C.pauses p.clock; end = p.end } };
+    ghost view = { λ p. record { topology = p.core.topology; steps = p.core.journal.steps; bodies = map (option_map B.look) p.bodies.items; control = option_map (line_seen S.ByteSource) p.control; clock = clock_seen C.latest C.readings C.pauses p.clock; watch = W.sight p.watch; end = p.end } };
 
-    ghost invariant = { λ p. IsPipe p.core (state_by B.look (line_seen S.ByteSource) (clock_seen C.latest C.readings C.pauses) p.core p.bodies.items p.control p.clock p.end) };
+    ghost invariant = { λ p. IsPipe (W.suits p.watch) (W.knows p.watch) p.has_failed p.core (state_by B.look (line_seen S.ByteSource) (clock_seen C.latest C.readings C.pauses) W.sight p.core p.bodies.items p.control p.clock p.watch p.end) };
 }
 
-impl<B: Works, S: ByteSource, C: Clock, W> Held for Pipe<B, S, C, W> {
+impl<B: Works, S: ByteSource, C: Clock, W: Shown> Held for Pipe<B, S, C, W> {
     type Start = Pipe<B, S, C, W>;
 
     ghost start = { λ p. p };
@@ -65,12 +68,15 @@ pub struct PipeParts<B, S, C, W> {
     pub control: Option<LineSource<S>>,
     pub clock: C,
     pub watch: W,
+    /// Whether the watch has failed.
+    pub has_failed: bool,
     /// How the run ended, once it has. The error is want of memory.
     pub end: Option<Result<RunEnd, AllocError>>,
 }
 
-impl<B: Works, S: ByteSource, C: Clock, W> Pipe<B, S, C, W> {
-    /// A pipe before its first step: the body of each post is at home, and nothing was read of the control source.
+impl<B: Works, S: ByteSource, C: Clock, W: Shown> Pipe<B, S, C, W> {
+    /// A pipe before its first step: the body of each post is at home, nothing was read of the control source, and the watch has seen
+    /// nothing.
     pub fn new(
         core: Core,
         bodies: Vec<Option<B>>,
@@ -82,7 +88,10 @@ impl<B: Works, S: ByteSource, C: Clock, W> Pipe<B, S, C, W> {
         requires empty { core.journal.steps ≡ [] }
         requires filled { IsFilled core.topology (body_at B.look bodies.items) }
         requires fresh { IfSome (option_map (line_seen S.ByteSource) control) IsFresh }
-        ensures made { state_of result ≡ state_by B.look (line_seen S.ByteSource) (clock_seen C.latest C.readings C.pauses) core bodies.items control clock None }
+        requires suits { W.suits watch core.topology }
+        requires knows { W.knows watch [] }
+        requires unfailed { (W.sight watch).failed ≡ false }
+        ensures made { state_of result ≡ state_by B.look (line_seen S.ByteSource) (clock_seen C.latest C.readings C.pauses) W.sight core bodies.items control clock watch None }
         ensures stems { Stems (state_of result) (state_of result) }
         ensures none_away { away_of (state_of result) ≡ [] }
     {
@@ -92,15 +101,18 @@ impl<B: Works, S: ByteSource, C: Clock, W> Pipe<B, S, C, W> {
             control,
             clock,
             watch,
+            has_failed: false,
             end: None,
         }
     }
 
-    /// The core, the bodies, the control source and the clock, and how the run ended.
+    /// The core, the bodies, the control source, the clock and the watch, and how the run ended.
     pub fn into_parts(self) -> PipeParts<B, S, C, W>
         ensures stands { Stands result.core }
         ensures whole { IsWhole (state_of self) }
-        ensures parts { state_of self ≡ state_by B.look (line_seen S.ByteSource) (clock_seen C.latest C.readings C.pauses) result.core result.bodies.items result.control result.clock result.end }
+        ensures parts { state_of self ≡ state_by B.look (line_seen S.ByteSource) (clock_seen C.latest C.readings C.pauses) W.sight result.core result.bodies.items result.control result.clock result.watch result.end }
+        ensures known { result.has_failed ≡ (W.sight result.watch).failed }
+        ensures watched { HasSeen (W.suits result.watch) (W.knows result.watch) (W.sight result.watch).failed (HasMemory result.end) result.core.topology result.core.journal.steps }
     {
         let Pipe {
             core,
@@ -108,6 +120,7 @@ impl<B: Works, S: ByteSource, C: Clock, W> Pipe<B, S, C, W> {
             control,
             clock,
             watch,
+            has_failed,
             end,
         } = self;
         PipeParts {
@@ -116,6 +129,7 @@ impl<B: Works, S: ByteSource, C: Clock, W> Pipe<B, S, C, W> {
             control,
             clock,
             watch,
+            has_failed,
             end,
         }
     }

@@ -4,12 +4,13 @@ ghost use Rattle.std.specs.Prelude.{◌≡◌, ◌≢◌, true, Some, IfSome, Is
 ghost use Rattle.pipe_types.specs.declared.numbers.Post.{Post as PostSeen};
 ghost use Rattle.pipe_model.specs.{Begins.{BeginsWith}, Posts.{is_out}, History.{History}};
 ghost use Rattle.pipeline_turn.specs.Jobs.{IsUndone, IsUnanswered, IsOwnJob, AreAway};
-ghost use Rattle.run_pipe.specs.{Jobs.{IsLoadOf, IsHomeOf, IsBrought}, Rounded.{Rounded, IsRecorded}, Rounds.{round_of, end_of}, Serves.{Serves}, Seen.{PipeSeen, PipeState, state_of, away_of}};
+ghost use Rattle.run_pipe.specs.{Jobs.{IsLoadOf, IsHomeOf, IsBrought}, Rounded.{Rounded, IsRecorded}, Rounds.{round_of, end_of, round_shown, end_shown, cut_short}, Serves.{Serves}, Seen.{PipeSeen, PipeState, state_of, away_of}};
 ghost use Rattle.run_pipe.specs.Stems.{Stems};
 ghost use Rattle.stage_workers.specs.Rounds.{IfJob, job_post, brought_post};
 
 use crate::ends::RunEnd;
 use crate::pipe::Pipe;
+use crate::shown::{Shown, show};
 use pipe_edges::{ByteSource, Clock};
 use pipe_types::numbers::Post;
 use pipe_types::topology::{Kind, Role};
@@ -18,7 +19,7 @@ use stage_holds::{Home, Load, Next, come_home, hold};
 use stage_workers::{Round, Shift};
 use std::alloc::{AllocError, Global};
 
-impl<B: Works, S: ByteSource, C: Clock, W> Shift for Pipe<B, S, C, W> {
+impl<B: Works, S: ByteSource, C: Clock, W: Shown> Shift for Pipe<B, S, C, W> {
     type Load = Load<B>;
 
     type Home = Home<B>;
@@ -66,7 +67,7 @@ const QUICK_JOBS: u32 = 32;
 /// How often rules are applied at most in a job that is quick.
 const QUICK_RULES: usize = 128;
 
-impl<B: Works, S: ByteSource, C: Clock, W> Pipe<B, S, C, W> {
+impl<B: Works, S: ByteSource, C: Clock, W: Shown> Pipe<B, S, C, W> {
     /// Holds the pipe. A job that is quick is done at once, and the pipe held again with what comes of it: handing the pipe to
     /// another worker would take longer. So many at most, since the others wait.
     fn serve(&mut self, brought: Option<Home<B>>) -> Round<Load<B>>
@@ -103,7 +104,8 @@ impl<B: Works, S: ByteSource, C: Clock, W> Pipe<B, S, C, W> {
     }
 
     /// All that a worker does while it has the pipe: what it brings comes home; the pipeline advances, unless it has ended; then the
-    /// next job begins, or time passes, or it is told why neither is so.
+    /// next job begins, or time passes, or it is told why neither is so; and the watch is shown the journal. Where memory is wanting for
+    /// that, the run ends; a job that was begun is done all the same, and comes home to a pipe that has ended.
     pub fn hold(&mut self, brought: Option<Home<B>>) -> Round<Load<B>>
         requires home { (opened : PipeState) × (seen : History) × Stems opened (state_of self.old) × IsBrought B.look opened seen self.old.steps brought }
         ensures rounded { Rounded B.look brought result (state_of self.old) (state_of self.new) }
@@ -118,13 +120,14 @@ impl<B: Works, S: ByteSource, C: Clock, W> Pipe<B, S, C, W> {
             &mut self.clock,
             brought,
         );
-        let (round, end) = told(came);
+        let shown = show(&mut self.watch, &mut self.has_failed, &self.core);
+        let (round, end) = told(came, shown);
         self.end = end;
         round
     }
 
     /// What is brought to a pipe that has ended comes home, and its answer is recorded. Where memory is wanting for the records that it
-    /// brings, they are lost: the pipe has ended for want of memory already.
+    /// brings, they are lost: the pipe has ended for want of memory already. The watch is shown the journal as long as it has the memory.
     fn take_home(&mut self, brought: Option<Home<B>>) -> Round<Load<B>>
         requires ended { IsSome self.old.end }
         requires home { (opened : PipeState) × (seen : History) × Stems opened (state_of self.old) × IsBrought B.look opened seen self.old.steps brought }
@@ -133,6 +136,7 @@ impl<B: Works, S: ByteSource, C: Clock, W> Pipe<B, S, C, W> {
         match brought {
             Some(home) => {
                 let _ = come_home(&mut self.core, &mut self.bodies, home);
+                let _ = show(&mut self.watch, &mut self.has_failed, &self.core);
                 Round::Ended
             }
             None => Round::Ended,
@@ -140,8 +144,33 @@ impl<B: Works, S: ByteSource, C: Clock, W> Pipe<B, S, C, W> {
     }
 }
 
-/// What a worker does after a hold, and how the run has ended then, if it has.
+/// What a worker does after a hold, by how it came and how the watch was shown the journal, and how the run has ended then, if it has.
 fn told<B>(
+    came: Result<Next<B>, AllocError>,
+    shown: Result<(), AllocError>,
+) -> (Round<Load<B>>, Option<Result<RunEnd, AllocError>>)
+    ensures round { result.0 ≡ round_shown shown (round_of came) }
+    ensures end { result.1 ≡ end_shown shown (end_of came) }
+{
+    let (round, end) = came_to(came);
+    match shown {
+        Ok(()) => (round, end),
+        Err(error) => (cut_short(round), Some(Err(error))),
+    }
+}
+
+/// A worker that has begun a job does it, and any other has nothing to do any more.
+fn cut_short<L>(round: Round<L>) -> Round<L>
+    ensures { result ≡ cut_short round }
+{
+    match round {
+        Round::Job(load) => Round::Job(load),
+        Round::Waits | Round::Again | Round::Ended => Round::Ended,
+    }
+}
+
+/// The same, by how the hold came alone.
+fn came_to<B>(
     came: Result<Next<B>, AllocError>,
 ) -> (Round<Load<B>>, Option<Result<RunEnd, AllocError>>)
     ensures round { result.0 ≡ round_of came }

@@ -5,6 +5,7 @@ ghost use Rattle.run_pipe.specs.{Runs.{HasRun}, Seen.{state_of, away_of}, Stems.
 
 use crate::alone::run_here;
 use crate::pipe::Pipe;
+use crate::shown::Shown;
 use pipe_edges::{ByteSource, Clock};
 use stage_bodies::Works;
 use stage_workers::run_shifts;
@@ -19,7 +20,7 @@ pub fn run_workers<
     B: Works + Send,
     S: ByteSource + Send,
     C: Clock + Send,
-    W: Send,
+    W: Shown + Send,
     R: Threads + Wait + Sync,
 >(rt: &R, alloc: Global, workers: u16, pipe: Pipe<B, S, C, W>) -> Pipe<B, S, C, W>
     requires some { 1 ≤ workers }

@@ -1,5 +1,5 @@
 -- What is written, and with which status.
-use Rattle.std.specs.Prelude.{◌≡◌, ◌≢◌, ℕ, List, [], ◌++◌, take, Option, Some, None}
+use Rattle.std.specs.Prelude.{◌≡◌, ◌≢◌, ◌⊎◌, ℕ, List, [], ◌++◌, take, Option, Some, None}
 use Rattle.config_table.specs.declared.fault.ConfigFault.{ConfigFault}
 use Rattle.config_table.specs.declared.fault.ConfigFault.TheVariants.{NotToml, Version, UnknownKey, Missing, WrongType, OutOfRange, DuplicateName, UnknownBatcher, NoStage, TooManyStages, BadDispatch, Unreachable, OutOfMemory}
 use Rattle.config_table.specs.Fault.{number_of}
@@ -9,7 +9,7 @@ use Rattle.run_verdicts.specs.declared.verdict.Refusal.{Refusal}
 use Rattle.run_verdicts.specs.declared.verdict.Refusal.TheVariants.{Usage, Topology as NoTopology, Stock, Edge, Audit, Memory}
 use Rattle.run_verdicts.specs.declared.verdict.Texts.{Texts}
 use Rattle.run_verdicts.specs.declared.verdict.Verdict.{Verdict}
-use Rattle.run_verdicts.specs.declared.verdict.Verdict.TheVariants.{Refused, Done}
+use Rattle.run_verdicts.specs.declared.verdict.Verdict.TheVariants.{Refused, Done, Unfed}
 
 -- exactly this text was written
 abbrev pub Adds : (held held' text : List ℕ) → Type 0
@@ -63,27 +63,33 @@ whole_text texts = or_nothing texts.steps ++ (or_nothing texts.acks ++ texts.las
 -- what a verdict writes to the output and to the error output, and its status
 abbrev pub out_text_of : Verdict → List ℕ
 out_text_of (Done texts status) = whole_text texts
+out_text_of (Unfed texts line) = whole_text texts
 out_text_of (Refused refusal) = []
 
 abbrev pub err_text_of : Verdict → List ℕ
 err_text_of (Done texts status) = []
+err_text_of (Unfed texts line) = line
 err_text_of (Refused refusal) = refusal_text refusal
 
 abbrev pub status_in : Verdict → ℕ
 status_in (Done texts status) = status
+status_in (Unfed texts line) = 12
 status_in (Refused refusal) = refusal_status refusal
 
--- a report fails at the output, a refusal at the error output
+-- a report fails at the output, a refusal at the error output, and the failure of the live sink at either
 abbrev pub FaultBy : Verdict → (out err : Type 0) → Type 0
 FaultBy (Done texts status) out err = out
+FaultBy (Unfed texts line) out err = out ⊎ err
 FaultBy (Refused refusal) out err = err
 
--- with a report nothing is written to the error output
+-- with a report alone nothing is written to the error output
 abbrev pub QuietBy : Verdict → (quiet : Type 0) → Type 0
 QuietBy (Done texts status) quiet = quiet
+QuietBy (Unfed texts line) quiet = Unit {0}
 QuietBy (Refused refusal) quiet = Unit {0}
 
 -- what comes of a refusal, and of a report whose own status is not 9
 abbrev pub UnlessNine : Verdict → (holds : Type 0) → Type 0
 UnlessNine (Done texts status) holds = status ≢ 9 → holds
+UnlessNine (Unfed texts line) holds = holds
 UnlessNine (Refused refusal) holds = holds

@@ -2,7 +2,8 @@
 //!
 //! `texts_of` makes the texts of a run from its core: the journal and the acknowledgements, where they are shown, and the report.
 //! `legal_text` says what the steps of a legal journal come to, which an audit writes.
-//! `write_verdict` writes a report to the output or the line of a refusal to the error output, and answers the status.
+//! `write_verdict` writes a report to the output or the line of a refusal to the error output, or both where the sink of live
+//! acknowledgements failed, and answers the status.
 #![tactic(auto)]
 
 mod audits;

@@ -47,14 +47,17 @@ pub struct Texts {
     pub last: Bytes,
 }
 
-/// What a call comes to: a refusal, or texts with a status.
+/// What a call comes to.
 #[derive(Drop)]
 pub enum Verdict {
     Refused(Refusal),
     Done { texts: Texts, status: u8 },
+    /// A run whose sink for live acknowledgements failed: its texts, and the line that names the sink.
+    Unfed { texts: Texts, line: Bytes },
 }
 
-/// Writes the texts or the refusal, and answers the status: 9 where memory was wanting, 8 where a write failed.
+/// Writes the texts or the refusal, or the texts and then the line of a failed sink, and answers the status: 9 where memory was
+/// wanting, 8 where a write failed.
 pub fn write_verdict<K: ByteSink>(alloc: Global, verdict: &Verdict, out: &mut K, err: &mut K) -> u8
     ensures status { (result ≡ status_in verdict.now) ⊎ ((result ≡ 8) ⊎ (result ≡ 9)) }
     ensures wanting { verdict.now ≡ Verdict.Refused Refusal.Memory → result ≡ 9 }
@@ -69,11 +72,28 @@ pub fn write_verdict<K: ByteSink>(alloc: Global, verdict: &Verdict, out: &mut K,
 {
     match verdict {
         Verdict::Done { texts, status } => put_texts(out, texts, *status),
+        Verdict::Unfed { texts, line } => put_unfed(out, err, texts, line),
         Verdict::Refused(refusal) => match refusal_line(alloc, refusal) {
             Ok(line) => put_line(err, &line, status_of(refusal)),
             Err(_) => 9,
         },
     }
+}
+
+/// Writes the texts, and then the line to the error output, and answers 12, or 8 where a write failed; behind a text that was
+/// not written whole no line is written.
+fn put_unfed<K: ByteSink>(out: &mut K, err: &mut K, texts: &Texts, line: &Bytes) -> u8
+    ensures status { (result ≡ 12) ⊎ (result ≡ 8) }
+    ensures fault { result ≡ 8 → Rose (K.faults out.old) (K.faults out.new) ⊎ Rose (K.faults err.old) (K.faults err.new) }
+    ensures out { result ≢ 8 → IsTrue (K.told out.old) → Adds (K.held out.old) (K.held out.new) (whole_text texts.now) }
+    ensures out_begun { IsTrue (K.told out.old) → AddsPrefix (K.held out.old) (K.held out.new) (whole_text texts.now) }
+    ensures err { result ≢ 8 → IsTrue (K.told err.old) → Adds (K.held err.old) (K.held err.new) line.now }
+    ensures err_begun { IsTrue (K.told err.old) → AddsPrefix (K.held err.old) (K.held err.new) line.now }
+{
+    if put_texts(out, texts, 12) == 8 {
+        return 8;
+    }
+    put_text(err, line, 12)
 }
 
 /// Writes the texts in their order, each by itself, and answers the status, or 8 where the sink failed.

@@ -53,4 +53,4 @@ returns-in-Err-clause-wanting g c =
     let s = g.E.Source.ByteSource in
     let k = g.E.Sink.ByteSink in
     let seen = edges_seen e.told e.named e.asked e.faults e.sources_back e.sinks_back (source_seen s) (sink_seen k.told k.held k.faults) in
-    unasked feeds c.args.topology (seen c.args.edges.now)
+    unasked c.args.live.now feeds c.args.topology (seen c.args.edges.now)

@@ -24,8 +24,15 @@ add_sink-requires-2-clause-new_name c =
     c.in_ok-add_sink.ensures.ok.elsewhere.new Sink _ (λ e. differ _ _ (sym c.in_ok-text_of-3.ensures ∙ e.1 ∙ c.in_ok-text_of-2.ensures) refl)
     (c.in_ok-add_file.ensures.ok.elsewhere.new Sink _ (λ e. sink_is_no_file e.0) (c.new-edges.ensures.empty Sink _))
 
+pub add_sink-requires-3-clause-new_name : goal.add_sink-requires-3-clause-new_name
+add_sink-requires-3-clause-new_name c =
+    c.in_ok-add_sink-2.ensures.ok.elsewhere.new Sink _ (λ e. differ _ _ (sym c.in_ok-text_of-4.ensures ∙ e.1 ∙ c.in_ok-text_of-3.ensures) refl)
+    (c.in_ok-add_sink.ensures.ok.elsewhere.new Sink _ (λ e. differ _ _ (sym c.in_ok-text_of-4.ensures ∙ e.1 ∙ c.in_ok-text_of-2.ensures) refl)
+    (c.in_ok-add_file.ensures.ok.elsewhere.new Sink _ (λ e. sink_is_no_file e.0) (c.new-edges.ensures.empty Sink _)))
+
 pub returns : goal.returns
 returns c name =
-    c.in_ok-add_sink-2.ensures.ok.elsewhere.new Source name (λ e. source_is_no_sink e.0)
+    c.in_ok-add_sink-3.ensures.ok.elsewhere.new Source name (λ e. source_is_no_sink e.0)
+    (c.in_ok-add_sink-2.ensures.ok.elsewhere.new Source name (λ e. source_is_no_sink e.0)
     (c.in_ok-add_sink.ensures.ok.elsewhere.new Source name (λ e. source_is_no_sink e.0)
-    (c.in_ok-add_file.ensures.ok.elsewhere.new Source name (λ e. source_is_no_file e.0) (c.new-edges.ensures.empty Source name)))
+    (c.in_ok-add_file.ensures.ok.elsewhere.new Source name (λ e. source_is_no_file e.0) (c.new-edges.ensures.empty Source name))))

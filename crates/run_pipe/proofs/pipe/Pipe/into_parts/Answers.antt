@@ -13,8 +13,9 @@ returns-clause-whole g c =
     let look = g.B.Works.look in
     let line = line_seen s in
     let time = clock_seen g.C.Clock.latest g.C.Clock.readings g.C.Clock.pauses in
+    let view = g.W.Shown.sight in
     let i = c.self.inside in
-    let same = sym (ap state_of c.self.view_is) ∙ state_is look i.core.topology i.core.journal.steps i.bodies.items (option_map line i.control) (time i.clock) i.end in
+    let same = sym (ap state_of c.self.view_is) ∙ state_is look i.core.topology i.core.journal.steps i.bodies.items (option_map line i.control) (time i.clock) (view i.watch) i.end in
     subst IsWhole (sym same) c.self.invariant.whole
 
 pub returns-clause-parts : goal.returns-clause-parts
@@ -23,5 +24,6 @@ returns-clause-parts g c =
     let look = g.B.Works.look in
     let line = line_seen s in
     let time = clock_seen g.C.Clock.latest g.C.Clock.readings g.C.Clock.pauses in
+    let view = g.W.Shown.sight in
     let i = c.self.inside in
-    sym (ap state_of c.self.view_is) ∙ state_is look i.core.topology i.core.journal.steps i.bodies.items (option_map line i.control) (time i.clock) i.end
+    sym (ap state_of c.self.view_is) ∙ state_is look i.core.topology i.core.journal.steps i.bodies.items (option_map line i.control) (time i.clock) (view i.watch) i.end

@@ -1,0 +1,5 @@
+mod Feeding
+mod Places
+mod Verdicts
+mod Moving
+pub mod Fronts

@@ -1,0 +1,5 @@
+pub mod Fed
+pub mod Lines
+pub mod Entries
+pub mod Feeds
+pub mod Moves
