@@ -1,4 +1,5 @@
 pub mod Loops
+pub mod Reasons
 pub mod Spelt
 pub mod Chains
 pub mod ItemsAgain
