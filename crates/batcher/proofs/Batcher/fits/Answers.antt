@@ -1,12 +1,13 @@
 use Rattle.std.proofs.Common.{rules, arith, length, ◌≡◌, ap, sym, ◌∙◌, subst, true, false, ◌&&◌, not, ℕ}
 use Rattle.std.specs.Prelude.{nat_lt, option_copied}
 use Rattle.batcher.specs.Batches.{fits, Batches}
+use Rattle.batcher.specs.Seen.{seen}
 use Rattle.batcher.proofs.Gathers.{fits_there, fits_new}
 use Rattle.batcher.proofs.Batcher.fits.Goals.{In-Some}
 use Rattle.batcher.proofs.Batcher.fits.Goals as goal
 
 -- a batch that is there lets one more in where it is short and does not end in flush
-open_there : (c : In-Some) → fits c.self.inside.batch_size c.args.key.now c.self.inside.batches ≡ (nat_lt (length c.in-Some.messages.now.numbers.items) c.self.inside.batch_size && not c.in-Some.messages.now.flush)
+open_there : (c : In-Some) → fits c.self.inside.batch_size c.args.key.now (seen c.self.inside.batches) ≡ (nat_lt (length c.in-Some.messages.now.numbers.items) c.self.inside.batch_size && not c.in-Some.messages.now.flush)
 open_there c = fits_there c.self.inside.batch_size c.args.key.now c.self.inside.batches c.in-Some.messages.now (sym c.get.ensures ∙ ap option_copied c.in-Some.is)
 
 pub returns-then-len-self : goal.returns-then-len-self
