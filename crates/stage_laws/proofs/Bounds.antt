@@ -26,7 +26,7 @@ use Rattle.pipe_laws.proofs.Lists.{Each, each_always, each_weaker, each_filter}
 use Rattle.pipe_laws.proofs.Places.{move_by}
 use Rattle.pipe_laws.proofs.Levels.{rank, rank_most, level, level_most, level_grows, feeds_down}
 use Rattle.pipe_laws.proofs.Accepted.{placed_accepted}
-use Rattle.pipe_laws.proofs.Settled.{batch_within, batch_closed}
+use Rattle.pipe_laws.proofs.Settled.{batch_within}
 use Rattle.pipe_laws.proofs.Allowed.{legal_before, legal_step, unowed}
 use Rattle.pipe_laws.proofs.Entries.{EntryFits, entries_fit, sent_exists}
 use Rattle.pipe_laws.proofs.Handled.{handled_within}
@@ -175,14 +175,14 @@ level_placed topology (Some p) k h = refl
 level_placed topology None k h = absurd (omega arith)
 
 -- a batch's number is a message's number too
-batch_within : (topology : Topology) (before : History) (b : ℕ) → is_legal topology before ≡ true → is_some (batch topology before b) ≡ true → (1 ≤ b) × (b ≤ accepted before)
-batch_within topology before b h some = (batch_least topology before b some, omega (arith, batch_closed topology before b some, closed_few topology before h))
+batch_accepted : (topology : Topology) (before : History) (b : ℕ) → is_legal topology before ≡ true → is_some (batch topology before b) ≡ true → (1 ≤ b) × (b ≤ accepted before)
+batch_accepted topology before b h some = let within = batch_within topology before b some in (within.0, omega (arith, within.1, closed_few topology before h))
 
 arrived_within : (topology : Topology) (before : History) (s : StageNo) (n : ℕ) → is_legal topology before ≡ true → Arrived topology before s n → (1 ≤ n) × (n ≤ accepted before)
 arrived_within topology before s n h a = either (is_batcher (spec_of topology s)) refl
   where
     either : (b : Bool) → is_batcher (spec_of topology s) ≡ b → (1 ≤ n) × (n ≤ accepted before)
-    either true e = batch_within topology before n h (a.batched e)
+    either true e = batch_accepted topology before n h (a.batched e)
     either false e = placed_accepted topology before n (level_placed topology (place topology before n) 0 (omega (arith, a.message e)))
 
 pub waiting_within : (topology : Topology) (before : History) (s : StageNo) → Fits topology → is_legal topology before ≡ true → Each (Within (accepted before)) (waiting topology before s)
@@ -206,7 +206,7 @@ pub entry_within : (topology : Topology) (before : History) (c : StageNo) (d : S
 entry_within topology before c d h fits = either (is_batcher (spec_of topology d.0.producer)) refl
   where
     either : (b : Bool) → is_batcher (spec_of topology d.0.producer) ≡ b → (1 ≤ d.1) × (d.1 ≤ accepted before)
-    either true e = batch_within topology before d.1 h (sent_exists (batch topology before d.1) (fits.batched e))
+    either true e = batch_accepted topology before d.1 h (sent_exists (batch topology before d.1) (fits.batched e))
     either false e =
         let down = feeds_down topology d.0.producer c fits.feeding in
         placed_accepted topology before d.1 (level_placed topology (place topology before d.1) 0 (omega (arith, (fits.message e).far, down)))
