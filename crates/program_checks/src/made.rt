@@ -52,10 +52,12 @@ fn run_row<R: Threads + Wait + Sync>(
     let mut world = world_of(rt.alloc(), &case)?;
     let (status, steps) = steps_of(waits, rt.alloc(), &case, words, &mut world)?;
     let home = is_home(rt.alloc(), &case, &mut world)?;
-    let live = has_word(words, "--live");
-    let came = came_of(rt.alloc(), &world, live, status, home, steps.len())?;
-    let calm = rules.text("rule") == "calm";
-    let fault = fault_in(rt.alloc(), calm, &case, came, steps.as_slice())?;
+    let ended = Ended {
+        live: has_word(words, "--live"),
+        status,
+        home,
+    };
+    let fault = fault_of(rt.alloc(), rules, &case, &world, ended, &steps)?;
     if fault != "" {
         println!(rt; "row {row}: {fault}")?;
     }
@@ -82,26 +84,35 @@ fn steps_of<R: Threads + Wait + Sync>(
     Ok((end.status, steps))
 }
 
-/// What the run came to; the last sink is live, or its words do not name it.
-fn came_of<'a>(
-    alloc: Global,
-    world: &'a World,
+/// How a run ended: whether its words name a live sink, its status, and whether all that it opened came home.
+#[derive(Clone, Copy)]
+struct Ended {
     live: bool,
     status: u8,
     home: bool,
-    steps: usize,
-) -> Result<Came<'a>, AllocError> {
+}
+
+fn fault_of(
+    alloc: Global,
+    rules: &Case,
+    case: &Case,
+    world: &World,
+    ended: Ended,
+    steps: &Vec<Step>,
+) -> Result<&'static str, AllocError> {
     let l = held_under(alloc, &world.edges, "mem:l")?;
-    Ok(Came {
+    let came = Came {
         out: shown(&world.out),
         err: shown(&world.err),
         s: held_under(alloc, &world.edges, "mem:s")?,
         t: held_under(alloc, &world.edges, "mem:t")?,
-        live: if live { Some(l) } else { None },
-        status,
-        home,
-        steps,
-    })
+        live: if ended.live { Some(l) } else { None },
+        status: ended.status,
+        home: ended.home,
+        steps: steps.len(),
+    };
+    let calm = rules.text("rule") == "calm";
+    fault_in(alloc, calm, case, came, steps.as_slice())
 }
 
 /// Marks each form of which there is a line in the output, or that the run was.
