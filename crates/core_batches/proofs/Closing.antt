@@ -375,6 +375,25 @@ held_by core s spec held stands e at =
       opens = sym (ap opens_in at) ∙ x.opens s;
     }
 
+-- where no open batch of this first message has a trigger, that of the message's key has none
+pub untriggered : (core : Core) (s : StageNo) (held : Batches) (dry : Bool) (key : List ℕ) (first : ℕ) → IsHeld core s held → All (λ batch. first_of batch ≡ first → held_trigger held core.totals.now dry batch ≡ None) held.batches
+    → 1 ≤ first → first_in (of_key core.journal.steps key (gathered_in core.topology core.journal.steps s)) ≡ first
+    → held_trigger held core.totals.now dry (open_of core.journal.steps (gathered_in core.topology core.journal.steps s) key) ≡ None
+untriggered core s held dry key first h all least firsts =
+    let before = core.journal.steps in
+    let ns = gathered_in core.topology before s in
+    let each : Each (λ k. first_of (open_of before ns k) ≡ first → held_trigger held core.totals.now dry (open_of before ns k) ≡ None) (keys_of before ns) =
+    each_mapped (λ batch. first_of batch ≡ first → held_trigger held core.totals.now dry batch ≡ None) (open_of before ns) (keys_of before ns)
+    (each_of_all (λ batch. first_of batch ≡ first → held_trigger held core.totals.now dry batch ≡ None) (open_batches before ns)
+    (subst (λ bs. All (λ batch. first_of batch ≡ first → held_trigger held core.totals.now dry batch ≡ None) bs) h.opens all)) in
+    of_some_key before (λ k. first_of (open_of before ns k) ≡ first → held_trigger held core.totals.now dry (open_of before ns k) ≡ None) key ns each
+    (some_of (of_key before key ns) first least firsts)
+    (first_is (of_key before key ns) ∙ firsts)
+  where
+    some_of : (xs : List ℕ) (n : ℕ) → 1 ≤ n → first_in xs ≡ n → is_empty xs ≡ false
+    some_of [] n low e = absurd (omega (arith, low, e))
+    some_of (x ∷ xs) n low e = refl
+
 -- there is such an open batch
 pub none_open : (core : Core) (s : StageNo) (first : MsgNo) (trigger : Trigger) (held : Batches) (dry : Bool) → Stands core → IsHeld core s held → allows core.topology core.journal.steps (Close s first trigger) ≡ true
     → dry ≡ is_dry core.topology core.journal.steps s
@@ -390,21 +409,10 @@ none_open core s first trigger held dry stands h allowed dries all =
     let rule : trigger_of topology before s (closing before (view_of topology before) s first.0) ≡ Some trigger =
     trigger_some (trigger_of topology before s (closing before (view_of topology before) s first.0)) trigger
     (and_right (first.0 == first_in (closing before (view_of topology before) s first.0)) _ (and_right (nat_le 1 first.0) _ (and_right (has_role topology s is_batcher_role) _ (and_right (is_live_stage topology before s) _ (unowed topology before (Close s first trigger) (λ x. refl) (λ x. refl) allowed))))) in
-    let each : Each (λ k. first_of (open_of before ns k) ≡ first.0 → held_trigger held core.totals.now dry (open_of before ns k) ≡ None) (keys_of before ns) =
-    each_mapped (λ batch. first_of batch ≡ first.0 → held_trigger held core.totals.now dry batch ≡ None) (open_of before ns) (keys_of before ns)
-    (each_of_all (λ batch. first_of batch ≡ first.0 → held_trigger held core.totals.now dry batch ≡ None) (open_batches before ns)
-    (subst (λ bs. All (λ batch. first_of batch ≡ first.0 → held_trigger held core.totals.now dry batch ≡ None) bs) h.opens all)) in
-    let none : held_trigger held core.totals.now dry (open_of before ns key) ≡ None =
-    of_some_key before (λ k. first_of (open_of before ns k) ≡ first.0 → held_trigger held core.totals.now dry (open_of before ns k) ≡ None) key ns each
-    (some_of (of_key before key ns) first.0 facts.some firsts)
-    (first_is (of_key before key ns) ∙ firsts) in
+    let none = untriggered core s held dry key first.0 h all facts.some firsts in
     let same : held_trigger held core.totals.now dry (open_of before ns key) ≡ Some trigger =
     trigger_is topology before s held key core.totals.now dry h.size h.timeout (ap (λ (y : Totals). y.now) stands.holds.fields.totals) dries ∙ (ap (trigger_of topology before s) (sym closes) ∙ rule) in
     (let wrong : None ≡ Some trigger = sym none ∙ same in cc)
-  where
-    some_of : (xs : List ℕ) (n : ℕ) → 1 ≤ n → first_in xs ≡ n → is_empty xs ≡ false
-    some_of [] n low e = absurd (omega (arith, low, e))
-    some_of (x ∷ xs) n low e = refl
 
 -- the open batch that was found is the one that is closed, and its trigger that of the step
 pub record IsFound (core : Core) (s : StageNo) (first : MsgNo) (trigger : Trigger) (at : ℕ) (found : Trigger) (batch : OpenBatch) : Type 0 where

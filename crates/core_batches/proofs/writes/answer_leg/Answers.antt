@@ -7,7 +7,8 @@ use Rattle.core_state.proofs.Steps.{holds_after, unowed_after}
 use Rattle.core_batches.specs.Writes.{leg_place}
 use Rattle.core_laws.specs.Columns.{sent_on}
 use Rattle.core_batches.proofs.Rooming.{wrote_due, wrote_size, wrote_room}
-use Rattle.core_batches.proofs.Written.{written_fields, answering, stage_found, take_there, written_room, leg_few, leg_is, leg_open, legs_there, outcomes_many, numbers_here, last_is, settled_is, legs_kept, places_by, marks_by}
+use Rattle.core_batches.proofs.Written.{IsHere, written_fields, answering, stage_found, take_there, written_room, leg_few, leg_is, leg_open, legs_there, outcomes_many, numbers_here, last_is, settled_is, legs_kept, places_by, marks_by}
+use Rattle.core_batches.proofs.writes.answer_leg.Goals.{After-outcomes_in-outcomes}
 use Rattle.core_batches.proofs.writes.answer_leg.Goals as goal
 
 pub index-row-requires : goal.index-row-requires
@@ -41,48 +42,41 @@ outcomes_in-outcomes-requires-clause-room c =
     let h = answering core c.args.stage c.args.bytes c.args.end os row c.unwrap.result c.requires.stands c.requires.legal is c.index-row.ensures c.unwrap.ensures in
     wrote_size core c.args.stage c.args.bytes os c.unwrap.result.0 row.taken (leg_place c.unwrap.result.0 (sent_on core.topology core.journal.steps row.taken)) h.written.ms h.written.legs c.requires.stands.holds h.written.is)
 
+-- the leg that its answer ends is here
+answered : (c : After-outcomes_in-outcomes) → IsHere c.args.core.now c.args.stage c.args.bytes c.outcomes_in-outcomes.result c.unwrap.result.0 c.index-row.result.now.taken
+answered c =
+    answering c.args.core.now c.args.stage c.args.bytes c.args.end c.outcomes_in-outcomes.result c.index-row.result.now c.unwrap.result c.requires.stands c.requires.legal c.outcomes_in-outcomes.ensures.answered
+    c.index-row.ensures c.unwrap.ensures
+
 pub leg_of_batch-leg-requires-clause-there : goal.leg_of_batch-leg-requires-clause-there
 leg_of_batch-leg-requires-clause-there c =
-    let os = c.outcomes_in-outcomes.result in
-    let h = answering c.args.core.now c.args.stage c.args.bytes c.args.end os c.index-row.result.now c.unwrap.result c.requires.stands c.requires.legal c.outcomes_in-outcomes.ensures.answered c.index-row.ensures c.unwrap.ensures in
-    h.there
+    (answered (goal.at.leg_of_batch-leg-requires-clause-there c).After-outcomes_in-outcomes).there
 
 pub leg_of_batch-leg-requires-clause-few : goal.leg_of_batch-leg-requires-clause-few
 leg_of_batch-leg-requires-clause-few c =
-    let os = c.outcomes_in-outcomes.result in
-    let h = answering c.args.core.now c.args.stage c.args.bytes c.args.end os c.index-row.result.now c.unwrap.result c.requires.stands c.requires.legal c.outcomes_in-outcomes.ensures.answered c.index-row.ensures c.unwrap.ensures in
-    leg_few c.args.core.now c.args.stage c.args.bytes os c.unwrap.result.0 c.index-row.result.now.taken h
+    leg_few c.args.core.now c.args.stage c.args.bytes c.outcomes_in-outcomes.result c.unwrap.result.0 c.index-row.result.now.taken (answered (goal.at.leg_of_batch-leg-requires-clause-few c).After-outcomes_in-outcomes)
 
 pub settle_leg-settled-requires-clause-open_leg : goal.settle_leg-settled-requires-clause-open_leg
 settle_leg-settled-requires-clause-open_leg c =
-    let os = c.outcomes_in-outcomes.result in
-    let h = answering c.args.core.now c.args.stage c.args.bytes c.args.end os c.index-row.result.now c.unwrap.result c.requires.stands c.requires.legal c.outcomes_in-outcomes.ensures.answered c.index-row.ensures c.unwrap.ensures in
-    let same = leg_is c.args.core.now c.args.stage c.args.bytes os c.unwrap.result.0 c.index-row.result.now.taken h c.leg_of_batch-leg.result c.leg_of_batch-leg.ensures in
-    leg_open c.args.core.now c.args.stage c.args.bytes os c.unwrap.result.0 c.index-row.result.now.taken h c.leg_of_batch-leg.result same
+    let h = answered (goal.at.settle_leg-settled-requires-clause-open_leg c).After-outcomes_in-outcomes in
+    let same = leg_is c.args.core.now c.args.stage c.args.bytes c.outcomes_in-outcomes.result c.unwrap.result.0 c.index-row.result.now.taken h c.leg_of_batch-leg.result c.leg_of_batch-leg.ensures in
+    leg_open c.args.core.now c.args.stage c.args.bytes c.outcomes_in-outcomes.result c.unwrap.result.0 c.index-row.result.now.taken h c.leg_of_batch-leg.result same
 
 pub settle_leg-settled-requires-clause-there : goal.settle_leg-settled-requires-clause-there
 settle_leg-settled-requires-clause-there c =
-    let os = c.outcomes_in-outcomes.result in
-    let h = answering c.args.core.now c.args.stage c.args.bytes c.args.end os c.index-row.result.now c.unwrap.result c.requires.stands c.requires.legal c.outcomes_in-outcomes.ensures.answered c.index-row.ensures c.unwrap.ensures in
-    legs_there c.args.core.now c.args.stage c.args.bytes os c.unwrap.result.0 c.index-row.result.now.taken h
+    legs_there c.args.core.now c.args.stage c.args.bytes c.outcomes_in-outcomes.result c.unwrap.result.0 c.index-row.result.now.taken (answered (goal.at.settle_leg-settled-requires-clause-there c).After-outcomes_in-outcomes)
 
 pub settle_leg-settled-requires-clause-outcomes : goal.settle_leg-settled-requires-clause-outcomes
 settle_leg-settled-requires-clause-outcomes c =
-    let os = c.outcomes_in-outcomes.result in
-    let h = answering c.args.core.now c.args.stage c.args.bytes c.args.end os c.index-row.result.now c.unwrap.result c.requires.stands c.requires.legal c.outcomes_in-outcomes.ensures.answered c.index-row.ensures c.unwrap.ensures in
-    outcomes_many c.args.core.now c.args.stage c.args.bytes os c.unwrap.result.0 c.index-row.result.now.taken h
+    outcomes_many c.args.core.now c.args.stage c.args.bytes c.outcomes_in-outcomes.result c.unwrap.result.0 c.index-row.result.now.taken (answered (goal.at.settle_leg-settled-requires-clause-outcomes c).After-outcomes_in-outcomes)
 
 pub end_batch-requires-clause-there : goal.end_batch-requires-clause-there
 end_batch-requires-clause-there c =
-    let os = c.outcomes_in-outcomes.result in
-    let h = answering c.args.core.now c.args.stage c.args.bytes c.args.end os c.index-row.result.now c.unwrap.result c.requires.stands c.requires.legal c.outcomes_in-outcomes.ensures.answered c.index-row.ensures c.unwrap.ensures in
-    h.there
+    (answered (goal.at.end_batch-requires-clause-there c).After-outcomes_in-outcomes).there
 
 pub end_batch-requires-clause-numbers : goal.end_batch-requires-clause-numbers
 end_batch-requires-clause-numbers c =
-    let os = c.outcomes_in-outcomes.result in
-    let h = answering c.args.core.now c.args.stage c.args.bytes c.args.end os c.index-row.result.now c.unwrap.result c.requires.stands c.requires.legal c.outcomes_in-outcomes.ensures.answered c.index-row.ensures c.unwrap.ensures in
-    numbers_here c.args.core.now c.args.stage c.args.bytes os c.unwrap.result.0 c.index-row.result.now.taken h (sym c.requires.stands.holds.fields.sized.places)
+    numbers_here c.args.core.now c.args.stage c.args.bytes c.outcomes_in-outcomes.result c.unwrap.result.0 c.index-row.result.now.taken (answered (goal.at.end_batch-requires-clause-numbers c).After-outcomes_in-outcomes) (sym c.requires.stands.holds.fields.sized.places)
 
 pub end_batch-requires-clause-marks : goal.end_batch-requires-clause-marks
 end_batch-requires-clause-marks c = c.requires.stands.holds.fields.sized.settled ∙ sym c.requires.stands.holds.fields.sized.places
@@ -101,7 +95,7 @@ count_handled-requires c =
     let os = c.outcomes_in-outcomes.result in
     let u = c.unwrap.result.0 in
     let b = c.index-row.result.now.taken in
-    let h = answering core c.args.stage c.args.bytes c.args.end os c.index-row.result.now c.unwrap.result c.requires.stands c.requires.legal c.outcomes_in-outcomes.ensures.answered c.index-row.ensures c.unwrap.ensures in
+    let h = answered (goal.at.count_handled-requires c).After-outcomes_in-outcomes in
     written_room core core.topology core.journal.steps c.args.stage c.args.bytes os u b (leg_place u (sent_on core.topology core.journal.steps b)) h.written.ms h.written.legs c.requires.stands.holds.fields h.written.is
 
 pub push_spare-requires : goal.push_spare-requires
@@ -115,10 +109,9 @@ returns-clause-stands c =
     let bytes = c.args.bytes in
     let os = c.outcomes_in-outcomes.result in
     let stands = c.requires.stands in
-    let row = c.index-row.result.now in
     let u = c.unwrap.result.0 in
-    let b = row.taken in
-    let h = answering core s bytes c.args.end os row c.unwrap.result stands c.requires.legal c.outcomes_in-outcomes.ensures.answered c.index-row.ensures c.unwrap.ensures in
+    let b = c.index-row.result.now.taken in
+    let h = answered (goal.at.returns-clause-stands c).After-outcomes_in-outcomes in
     let leg = c.leg_of_batch-leg.result in
     let same = leg_is core s bytes os u b h leg c.leg_of_batch-leg.ensures in
     let settled = c.settle_leg-settled.result in

@@ -1,4 +1,4 @@
-use Rattle.std.proofs.Common.{◌≡◌, ℕ, suc, ◌<◌, List, length, map, ◌∙◌, arith, refl, ap, sym, subst, All, drop, take, ◌++◌, [], ◌∷◌, true, Some}
+use Rattle.std.proofs.Common.{◌≡◌, ℕ, suc, ◌<◌, List, length, ◌∙◌, arith, refl, ap, sym, subst, All, drop, take, ◌++◌, [], ◌∷◌, true, Some}
 use Rattle.std.specs.Prelude.{option_map, slice_get, filter, not, ◌&&◌}
 use Rattle.std.specs.Vec.{with_item}
 use Rattle.std.proofs.lemmas.Option.{slice_get_read}
@@ -7,7 +7,7 @@ use Rattle.pipe_types.specs.declared.step.Step.TheVariants.{Dispatch}
 use Rattle.pipe_model.specs.Flow.{waiting, delivered_to, subs_of, alone, among}
 use Rattle.message_ack.specs.Ends.{sent_in}
 use Rattle.stage_subs.specs.Subs.{row_at, sent_more}
-use Rattle.core_tables.specs.Tables.{named, queue_at, count_between}
+use Rattle.core_tables.specs.Tables.{queue_at, count_between}
 use Rattle.core_laws.specs.Columns.{waiting_parts}
 use Rattle.core_state.specs.declared.state.Core.{Core}
 use Rattle.core_state.specs.Stands.{Fields}
