@@ -20,13 +20,13 @@ use pipe_types::topology::Topology;
 use rate_gate::GatedSource;
 use run_pipe::{Pipe, PipeParts, run_here};
 use stage_bodies::Houses;
-use stage_callback::StepsBox;
+use stage_callback::{LinesBox, StepsBox};
 use std::alloc::Global;
 use std::io;
 use std::sync::Wait;
 use topology_needs::shortage;
 
-/// How many boxes are in stock.
+/// How many boxes of each built-in kind are in stock.
 const STOCK: usize = 64;
 
 /// Keeps the length of each journal that it is shown.
@@ -70,6 +70,7 @@ pub fn run_lengths<R: Wait>(rt: &HostRuntime, waits: &R, case: &Case) -> io::Res
     let mut world = world_of(rt.alloc(), case)?;
     let mut stock: Vec<Handler> = Vec::new(rt.alloc());
     for _ in 0..STOCK {
+        stock.push(Box::new(rt.alloc(), LinesBox::new(rt.alloc()))?)?;
         stock.push(Box::new(rt.alloc(), StepsBox::new(rt.alloc()))?)?;
     }
     let shown = run_shown::<R, MemEdges, Handler, Body<GatedSource<MemSource>, MemSink>, MemClock>(
