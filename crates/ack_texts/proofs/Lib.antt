@@ -4,3 +4,5 @@ pub mod Ascending
 pub mod Texts
 pub mod Grouping
 pub mod Writing
+pub mod Logged
+pub mod Cuts

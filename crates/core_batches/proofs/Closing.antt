@@ -58,7 +58,7 @@ use Rattle.core_laws.proofs.Past.{known_within, live_known}
 use Rattle.core_laws.proofs.LegsOn.{none_sent, waiting_closed}
 use Rattle.core_state.specs.declared.state.Core.{Core}
 use Rattle.core_state.specs.Room.{Roomy}
-use Rattle.core_state.specs.Stands.{Fields, Stands, opens_in, opens_at, closed_seen}
+use Rattle.core_state.specs.Stands.{Fields, Stands, opens_in, opens_at, closed_seen, KeepsLog}
 use Rattle.core_state.proofs.Reading.{some_at}
 use Rattle.core_batches.specs.Closes.{without_open, HasParts}
 use Rattle.core_batches.proofs.Limits.{flip, limits_after}
@@ -521,8 +521,8 @@ parts_here topology s sound role low high =
 -- Where the journal and the tables made room alone, the core stands
 pub roomy_stands : (core : Core) (j : Recorded) (rows : Vec BatchRow Global) (queues : Vec (VecDeque (ℕ × ℕ) Global) Global) → Stands core → j.steps ≡ core.journal.steps → rows.items ≡ core.batches.items
     → ((t : StageNo) → queue_at queues.items t ≡ queue_at core.waiting.items t) → length queues.items ≡ length core.waiting.items
-    → core.journal.spare ≤ j.spare → ((t : StageNo) → spare_at core.waiting.items t ≤ spare_at queues.items t) → Stands (record core { journal = j; batches = rows; waiting = queues })
-roomy_stands core j rows queues stands same kept queued len spare rooms =
+    → core.journal.spare ≤ j.spare → ((t : StageNo) → spare_at core.waiting.items t ≤ spare_at queues.items t) → j.acked ≡ core.journal.acked → Stands (record core { journal = j; batches = rows; waiting = queues })
+roomy_stands core j rows queues stands same kept queued len spare rooms acked =
     record {
       holds =
           record {
@@ -530,6 +530,7 @@ roomy_stands core j rows queues stands same kept queued len spare rooms =
             legal = ap (is_legal core.topology) same ∙ stands.holds.legal;
             fields = subst (λ (h : History). Fields (record core { journal = j; batches = rows; waiting = queues }) core.topology h) (sym same) (fields core.topology core.journal.steps stands.holds.fields);
             room = subst (λ (h : History). Roomy (record core { journal = j; batches = rows; waiting = queues }) core.topology h) (sym same) (room core.topology core.journal.steps stands.holds.room);
+            log = subst (λ (h : History). KeepsLog core.topology h j.acked) (sym same) (subst (KeepsLog core.topology core.journal.steps) (sym acked) stands.holds.log);
           };
       unowed = ap (owed core.topology) same ∙ stands.unowed;
     }

@@ -2,12 +2,15 @@ use Rattle.std.proofs.Common.{◌≡◌, ◌∷◌, ◌∙◌, ◌<◌, length, 
 use Rattle.pipe_types.specs.declared.message.BatchEnd.{BatchEnd}
 use Rattle.pipe_types.specs.declared.message.BatchEnd.TheVariants.{Outcomes}
 use Rattle.pipe_types.specs.declared.step.Step.TheVariants.{Wrote}
+use Rattle.pipe_model.specs.History.{History}
+use Rattle.pipe_journal.specs.Recorded.{AckLog}
 use Rattle.core_state.specs.declared.state.Core.{Core}
-use Rattle.core_state.proofs.Steps.{holds_after, unowed_after}
+use Rattle.core_state.specs.Settles.{noted}
+use Rattle.core_state.proofs.Steps.{holds_after, unowed_after, log_noted}
 use Rattle.core_batches.specs.Writes.{leg_place}
 use Rattle.core_laws.specs.Columns.{sent_on}
 use Rattle.core_batches.proofs.Rooming.{wrote_due, wrote_size, wrote_room}
-use Rattle.core_batches.proofs.Written.{IsHere, written_fields, answering, stage_found, take_there, written_room, leg_few, leg_is, leg_open, legs_there, outcomes_many, numbers_here, last_is, settled_is, legs_kept, places_by, marks_by}
+use Rattle.core_batches.proofs.Written.{IsHere, written_fields, answering, stage_found, take_there, written_room, leg_few, leg_is, leg_open, legs_there, outcomes_many, numbers_here, last_is, settled_is, legs_kept, places_by, marks_by, written_acks, numbers_least, numbers_fit, rows_by}
 use Rattle.core_batches.proofs.writes.answer_leg.Goals.{After-outcomes_in-outcomes}
 use Rattle.core_batches.proofs.writes.answer_leg.Goals as goal
 
@@ -81,6 +84,24 @@ end_batch-requires-clause-numbers c =
 pub end_batch-requires-clause-marks : goal.end_batch-requires-clause-marks
 end_batch-requires-clause-marks c = c.requires.stands.holds.fields.sized.settled ∙ sym c.requires.stands.holds.fields.sized.places
 
+pub note_batch-requires-clause-there : goal.note_batch-requires-clause-there
+note_batch-requires-clause-there c =
+    let os = c.outcomes_in-outcomes.result in
+    let h = answering c.args.core.now c.args.stage c.args.bytes c.args.end os c.index-row.result.now c.unwrap.result c.requires.stands c.requires.legal c.outcomes_in-outcomes.ensures.answered c.index-row.ensures c.unwrap.ensures in
+    h.there
+
+pub note_batch-requires-clause-least : goal.note_batch-requires-clause-least
+note_batch-requires-clause-least c =
+    let os = c.outcomes_in-outcomes.result in
+    let h = answering c.args.core.now c.args.stage c.args.bytes c.args.end os c.index-row.result.now c.unwrap.result c.requires.stands c.requires.legal c.outcomes_in-outcomes.ensures.answered c.index-row.ensures c.unwrap.ensures in
+    numbers_least c.args.core.now c.args.stage c.args.bytes os c.unwrap.result.0 c.index-row.result.now.taken h (sym c.requires.stands.holds.fields.sized.places)
+
+pub note_batch-requires-clause-room : goal.note_batch-requires-clause-room
+note_batch-requires-clause-room c =
+    let os = c.outcomes_in-outcomes.result in
+    let h = answering c.args.core.now c.args.stage c.args.bytes c.args.end os c.index-row.result.now c.unwrap.result c.requires.stands c.requires.legal c.outcomes_in-outcomes.ensures.answered c.index-row.ensures c.unwrap.ensures in
+    numbers_fit c.args.core.now c.args.stage c.args.bytes os c.unwrap.result.0 c.index-row.result.now.taken h c.requires.stands.holds
+
 pub come_home-requires : goal.come_home-requires
 come_home-requires c =
     let bytes = c.args.bytes in
@@ -100,7 +121,10 @@ count_handled-requires c =
 
 pub push_spare-requires : goal.push_spare-requires
 push_spare-requires c =
-    omega (arith, wrote_due c.args.core.now c.args.stage c.args.bytes c.args.end c.requires.stands.holds c.requires.legal, c.requires.stands.holds.room.steps)
+    omega (arith, wrote_due c.args.core.now c.args.stage c.args.bytes c.args.end c.requires.stands.holds c.requires.legal, c.requires.stands.holds.room.steps, c.note_batch.ensures.same_spare)
+
+pub returns-clause-appended : goal.returns-clause-appended
+returns-clause-appended c = c.push_spare.ensures.written ∙ ap (λ (h : History). Wrote c.args.stage c.args.bytes c.args.end ∷ h) c.note_batch.ensures.same_steps
 
 pub returns-clause-stands : goal.returns-clause-stands
 returns-clause-stands c =
@@ -127,7 +151,7 @@ returns-clause-stands c =
       ends = c.outcomes_in-outcomes.new.ends;
       totals = record core.totals { quiet = 0 };
     } in
-    let written = c.push_spare.ensures.written ∙ ap (λ (e : BatchEnd). Wrote s bytes e ∷ core.journal.steps) c.outcomes_in-outcomes.ensures.answered in
+    let written = c.push_spare.ensures.written ∙ ap (λ (h : History). Wrote s bytes c.args.end ∷ h) c.note_batch.ensures.same_steps ∙ ap (λ (e : BatchEnd). Wrote s bytes e ∷ core.journal.steps) c.outcomes_in-outcomes.ensures.answered in
     let fields =
     written_fields core core.topology core.journal.steps s bytes os u b i h.written.ms h.written.legs settled c.push_spare.new.self c.come_home.new.posts c.end_batch.new.places c.end_batch.new.marks c.count_handled.new.subs
     c.settle_leg-settled.new.self c.outcomes_in-outcomes.new.ends stands.holds.sound stands.holds.fields h.written.is (last_is core s bytes os u b h leg settled same c.settle_leg-settled.ensures.last_leg)
@@ -135,7 +159,11 @@ returns-clause-stands c =
     c.come_home.ensures.posts c.come_home.ensures.len (places_by core s bytes os u b h settled core.places.items c.end_batch.new.places.items c.end_batch.ensures.places) c.end_batch.ensures.places_len
     (marks_by core s bytes os u b h settled c.len-mark.result core.settled.items c.end_batch.new.marks.items c.len-mark.ensures c.end_batch.ensures.marks) c.end_batch.ensures.marks_len c.count_handled.ensures c.outcomes_in-outcomes.ensures.len in
     let room = wrote_room core core-new s bytes (Outcomes os) stands.holds h.written.is.allowed
-    (omega (arith, wrote_due core s bytes (Outcomes os) stands.holds h.written.is.allowed, stands.holds.room.steps, c.push_spare.ensures.spare))
+    (omega (arith, wrote_due core s bytes (Outcomes os) stands.holds h.written.is.allowed, stands.holds.room.steps, c.push_spare.ensures.spare, c.note_batch.ensures.same_spare))
     c.end_batch.ensures.places_capacity c.end_batch.ensures.marks_capacity refl refl refl refl c.outcomes_in-outcomes.ensures.others in
-    let holds = holds_after core core-new (Wrote s bytes (Outcomes os)) stands.holds refl written h.written.is.allowed fields room in
+    let holds = holds_after core core-new (Wrote s bytes (Outcomes os)) stands.holds refl written h.written.is.allowed fields room
+    (log_noted core core-new (Wrote s bytes (Outcomes os)) h.written.ms c.push_spare.new.self.acked c.deref.result.now c.deref-2.result.now c.len-mark.result h.written.ms
+    stands.holds h.written.is.allowed refl (written_acks core s bytes os u b h) fields c.deref.ensures.value c.deref-2.ensures.value c.len-mark.ensures refl
+    (ap (λ (a : AckLog). a.rows) c.push_spare.ensures.same_acked ∙ rows_by core s bytes os u b h (noted c.deref.result.now c.deref-2.result.now c.len-mark.result) c.note_batch.new.journal.acked.rows c.note_batch.ensures.noted)
+    (ap (λ (a : AckLog). a.room) c.push_spare.ensures.same_acked ∙ c.note_batch.ensures.same_room)) in
     record { holds = holds; unowed = unowed_after core-new core.topology (Wrote s bytes (Outcomes os)) core.journal.steps refl written refl }
