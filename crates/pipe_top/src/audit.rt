@@ -122,7 +122,7 @@ pub(crate) fn audited<C, K>(
         Ok(last) => Ran {
             verdict: Verdict::Done {
                 texts: Texts {
-                    steps: None,
+                    steps: false,
                     acks: None,
                     last,
                 },

@@ -81,7 +81,7 @@ pub(crate) fn checked<C, K>(alloc: Global, topology: Topology, stock: Vec<C>, cl
         Ok(last) => Ran {
             verdict: Verdict::Done {
                 texts: Texts {
-                    steps: None,
+                    steps: false,
                     acks: None,
                     last,
                 },
@@ -154,7 +154,7 @@ pub(crate) fn finish_upgrade<C, K>(
     Ran {
         verdict: Verdict::Done {
             texts: Texts {
-                steps: None,
+                steps: false,
                 acks: None,
                 last: text,
             },

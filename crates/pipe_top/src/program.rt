@@ -89,7 +89,7 @@ pub fn run_program<
         stock,
         clock,
     } = run_words::<R, E, C, B, G, K>(rt, alloc, words, stock, edges, clock);
-    let status = write_verdict(alloc, &verdict, out, err);
+    let status = write_verdict(alloc, &verdict, &journal, out, err);
     RunEnd {
         status,
         topology,

@@ -1,8 +1,10 @@
 -- What is written, and with which status.
-use Rattle.std.specs.Prelude.{◌≡◌, ◌≢◌, ◌⊎◌, ℕ, List, [], ◌++◌, take, Option, Some, None}
+use Rattle.std.specs.Prelude.{if◌then◌else◌, Bool, ◌≡◌, ◌≢◌, ◌⊎◌, ℕ, List, [], ◌++◌, take, Option, Some, None}
 use Rattle.config_table.specs.declared.fault.ConfigFault.{ConfigFault}
 use Rattle.config_table.specs.declared.fault.ConfigFault.TheVariants.{NotToml, Version, UnknownKey, Missing, WrongType, OutOfRange, DuplicateName, UnknownBatcher, NoStage, TooManyStages, BadDispatch, Unreachable, OutOfMemory}
 use Rattle.config_table.specs.Fault.{number_of}
+use Rattle.pipe_model.specs.History.{History}
+use Rattle.journal_texts.specs.Steps.{journal_text}
 use Rattle.program_words.specs.Refusals.{usage_line, topology_line, stock_line, edge_line, memory_line}
 use Rattle.run_verdicts.specs.Audits.{fault_line, fault_status}
 use Rattle.run_verdicts.specs.declared.verdict.Refusal.{Refusal}
@@ -56,15 +58,18 @@ abbrev pub or_nothing : Option (List ℕ) → List ℕ
 or_nothing None = []
 or_nothing (Some text) = text
 
--- the journal and the acknowledgements where they are there, and then the last text
-abbrev pub whole_text : Texts → List ℕ
-whole_text texts = or_nothing texts.steps ++ (or_nothing texts.acks ++ texts.last)
+abbrev pub shown : Bool → List ℕ → List ℕ
+shown wanted text = if wanted then text else []
+
+-- the journal where it is shown, the acknowledgements where they are there, and then the last text
+abbrev pub whole_text : History → Texts → List ℕ
+whole_text before texts = shown texts.steps (journal_text before) ++ (or_nothing texts.acks ++ texts.last)
 
 -- what a verdict writes to the output and to the error output, and its status
-abbrev pub out_text_of : Verdict → List ℕ
-out_text_of (Done texts status) = whole_text texts
-out_text_of (Unfed texts line) = whole_text texts
-out_text_of (Refused refusal) = []
+abbrev pub out_text_of : History → Verdict → List ℕ
+out_text_of before (Done texts status) = whole_text before texts
+out_text_of before (Unfed texts line) = whole_text before texts
+out_text_of before (Refused refusal) = []
 
 abbrev pub err_text_of : Verdict → List ℕ
 err_text_of (Done texts status) = []

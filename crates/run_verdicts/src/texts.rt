@@ -8,7 +8,6 @@ ghost use Rattle.run_verdicts.specs.{Texts.{run_text}, Verdicts.{whole_text}};
 use crate::verdict::{Shows, Texts};
 use ack_texts::ack_text;
 use core_state::Core;
-use journal_texts::lines::journal_text;
 use journal_texts::report::report_text;
 use pipe_types::bytes::Bytes;
 use pipe_types::message::Place;
@@ -22,23 +21,22 @@ pub fn places_of(core: &Core) -> &[Place]
     core.places.as_slice()
 }
 
-/// The texts of a run: those that are shown, and the report.
+/// The texts of a run: those that are shown, and the report. The journal itself is the first of them.
 pub fn texts_of(alloc: Global, core: &Core, shows: Shows) -> Result<Texts, AllocError>
     requires stands { Stands core.now }
-    ensures { IfOk result (λ texts. whole_text texts ≡ run_text shows core.now.topology core.now.journal.steps) }
+    ensures { IfOk result (λ texts. whole_text core.now.journal.steps texts ≡ run_text shows core.now.topology core.now.journal.steps) }
 {
-    let steps = if shows.steps {
-        Some(journal_text(alloc, core.journal())?)
-    } else {
-        None
-    };
     let acks = if shows.acks {
         Some(acks_of(alloc, core)?)
     } else {
         None
     };
     let last = report_of(alloc, core)?;
-    Ok(Texts { steps, acks, last })
+    Ok(Texts {
+        steps: shows.steps,
+        acks,
+        last,
+    })
 }
 
 /// The acknowledgements of a run.

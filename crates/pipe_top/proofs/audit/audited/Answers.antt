@@ -1,11 +1,11 @@
-use Rattle.std.proofs.Common.{None, refl, inr}
+use Rattle.std.proofs.Common.{false, None, refl, inr}
 use Rattle.pipe_top.proofs.Openings.{unrun}
 use Rattle.pipe_top.proofs.audit.audited.Goals as goal
 
 pub returns-in-Ok-clause-audited : goal.returns-in-Ok-clause-audited
 returns-in-Ok-clause-audited g c = inr (record {
   texts = record {
-    steps = None;
+    steps = false;
     acks = None;
     last = c.in-Ok.last;
   };
