@@ -209,12 +209,17 @@ may_ack topology before step ns legal once open_yet there all =
 -- the rows of those that are acknowledged then go behind the log
 pub logged : (topology : Topology) (before : History) (step : Step) (ns : List ℕ) (rows : List AckRow) → is_legal topology (step ∷ before) ≡ true → IsLog topology before rows → MayAck topology before step ns
     → IsLog topology (step ∷ before) (rows ++ filter_map (row_after topology before step) ns)
-logged topology before step ns rows legal log may =
-    (rows, rows_after topology before step ns, refl, log, record {
-      members = λ n. rows_among topology before step ns n legal ∙ by n (among ns n) refl;
-      once = rows_once topology before step ns legal (once_apart ns may.once);
-      each = each_all (IsAckRow topology before step) (rows_after topology before step ns) (rows_each topology before step ns legal);
-    })
+logged topology before step ns rows legal log may = (
+  rows,
+  rows_after topology before step ns,
+  refl,
+  log,
+  record {
+    members = λ n. rows_among topology before step ns n legal ∙ by n (among ns n) refl;
+    once = rows_once topology before step ns legal (once_apart ns may.once);
+    each = each_all (IsAckRow topology before step) (rows_after topology before step ns) (rows_each topology before step ns legal);
+  },
+)
   where
     off : (n : ℕ) (b : Bool) → is_newly topology before step n ≡ b → among ns n ≡ false → false ≡ b
     off n true e none = clash (among ns n) (may.all n e) none
@@ -226,12 +231,17 @@ logged topology before step ns rows legal log may =
 
 -- a step that acknowledges no message adds nothing
 pub unlogged : (topology : Topology) (before : History) (step : Step) (rows : List AckRow) → ((n : ℕ) → is_newly topology before step n ≡ false) → IsLog topology before rows → IsLog topology (step ∷ before) rows
-unlogged topology before step rows none log =
-    (rows, [], sym (append-nil rows), log, record {
-      members = λ n. sym (none n);
-      once = tt;
-      each = All-nil (IsAckRow topology before step);
-    })
+unlogged topology before step rows none log = (
+  rows,
+  [],
+  sym (append-nil rows),
+  log,
+  record {
+    members = λ n. sym (none n);
+    once = tt;
+    each = All-nil (IsAckRow topology before step);
+  },
+)
 
 -- such is one that touches none
 pub none_touched : (topology : Topology) (before : History) (step : Step) → is_legal topology (step ∷ before) ≡ true → touched topology before step ≡ [] → (n : ℕ) → is_newly topology before step n ≡ false

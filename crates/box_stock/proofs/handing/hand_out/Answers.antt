@@ -24,8 +24,8 @@ at_home g c =
 all_lent : (g : Over) (c : After-lend_all g)
     → ((k : ℕ) → joined (slice_get c.in-Ok.homes.items k) ≡ post_for c.args.topology.now (kinds_of g.C.Boxed.seen c.args.stock.items) k)
     → IsAllLent g.C.Boxed.seen c.args.topology.now c.args.stock.items (λ k. joined (slice_get c.in-Ok.homes.items k)) (box_at g.C.Boxed.seen c.arm_all.new.stock.items)
-        (slip_at c.lend_all.new.slips.items) (body_at g.B.Works.look c.in-Ok-new_table.bodies.items) (body_at g.B.Works.look c.seat_producers.new.bodies.items)
-        (body_at g.B.Works.look c.lend_all.new.bodies.items)
+    (slip_at c.lend_all.new.slips.items) (body_at g.B.Works.look c.in-Ok-new_table.bodies.items) (body_at g.B.Works.look c.seat_producers.new.bodies.items)
+    (body_at g.B.Works.look c.lend_all.new.bodies.items)
 all_lent g c homes = record {
   sound = c.requires.sound;
   enough = c.requires.suffices;
