@@ -8,7 +8,7 @@ use Rattle.pipe_model.specs.Acknowledgements.{acknowledgements, acknowledged_by}
 use Rattle.pipe_model.specs.Begins.{BeginsWith}
 use Rattle.pipe_model.specs.History.{History}
 use Rattle.journal_texts.specs.Acks.{ack_text}
-use Rattle.ack_feed.specs.Feeds.{line_of}
+use Rattle.ack_texts.specs.Lines.{line_of}
 
 abbrev Text : Type 0
 Text = List ℕ

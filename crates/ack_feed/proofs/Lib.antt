@@ -1,5 +1,3 @@
 mod Feeding
-mod Places
-mod Verdicts
 mod Moving
 pub mod Fronts

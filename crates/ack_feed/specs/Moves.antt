@@ -1,18 +1,27 @@
 -- A feed between two steps.
-use Rattle.std.specs.Prelude.{ℕ, Bool, false, IsTrue, List, Result, Ok, Err}
+use Rattle.std.specs.Prelude.{◌≡◌, ℕ, Bool, false, List, Result, Ok, Err, length}
 use Rattle.std.specs.declared.alloc.AllocError.{AllocError}
-use Rattle.ack_feed.specs.Fed.{IsFed, is_failed}
-use Rattle.ack_feed.specs.Feeds.{ack_lines, to_come}
-use Rattle.ack_feed.specs.Lines.{sink_of}
+use Rattle.pipe_model.specs.Begins.{BeginsWith}
+use Rattle.pipe_model.specs.History.{History}
 use Rattle.pipe_journal.specs.declared.watch.WatchEnd.{WatchEnd}
 use Rattle.pipe_journal.specs.declared.watch.WatchEnd.TheVariants.{Failed as WatchFailed}
+use Rattle.ack_feed.specs.Fed.{is_failed}
+use Rattle.ack_feed.specs.Feeds.{AckFeed, Flows}
 use Rattle.ack_feed.specs.declared.lines.FeedEnd.{FeedEnd}
 use Rattle.ack_feed.specs.declared.lines.FeedEnd.TheVariants.{Done, Failed}
-use Rattle.ack_feed.specs.declared.feed.AckFeed.{AckFeed}
 
--- where the sink tells, it began with these bytes, and got the text of the acknowledgements, but for what is still to be written
-abbrev pub Flows : {K : Type 0} → (told : K → Bool) → (held : K → List ℕ) → (begun : List ℕ) → AckFeed K → Type 0
-Flows told held begun feed = IsTrue (told (sink_of feed.feed)) → IsFed begun (ack_lines feed.cursor.topology feed.cursor.steps) (held (sink_of feed.feed)) (to_come feed)
+-- of a journal it has seen a first part
+pub record Follows {K : Type 0} (told : K → Bool) (held : K → List ℕ) (feed : AckFeed K) (whole : History) : Type 0 where
+  pub steps : History
+  pub shown : feed.shown ≡ length steps
+  pub flows : Flows told held feed steps
+  pub begins : BeginsWith whole steps
+
+-- what was done with the lines of one step: they were sent and it has seen so many steps, or it has seen those before it
+abbrev pub SentBy : {K : Type 0} → Result FeedEnd AllocError → (told : K → Bool) → (held : K → List ℕ) → (old new : AckFeed K) → (next : ℕ) → (before after : History) → Type 0
+SentBy (Ok Done) told held old new next before after = (new.shown ≡ next) × Flows told held new after
+SentBy (Ok Failed) told held old new next before after = (new.shown ≡ old.shown) × Flows told held new before
+SentBy (Err error) told held old new next before after = (new.shown ≡ old.shown) × Flows told held new before
 
 -- a write failed, and memory was there
 abbrev pub ended_failed : Result FeedEnd AllocError → Bool

@@ -1,67 +1,75 @@
 //! The acknowledgements of a journal, sent to a sink while the journal grows.
 
-ghost use Rattle.std.specs.Prelude.{◌≡◌, ◌≤◌, ◌<◌, ◌++◌, ◌∷◌, ℕ, List, [], true, false, map, length, reverse, Ok, IfOk, IfErr, OnOk, IsTrue};
-ghost use Rattle.pipe_types.specs.Stages.{spec_of};
-ghost use Rattle.pipe_model.specs.{Begins.{BeginsWith}, Legal.{is_legal}};
-ghost use Rattle.journal_texts.specs.Acks.{name_in};
-ghost use Rattle.message_ack.specs.Groups.{acknowledgement, acknowledgements_in};
+ghost use Rattle.std.specs.Prelude.{◌≡◌, ◌+◌, ◌≤◌, ◌<◌, ◌++◌, ◌∷◌, ℕ, List, [], true, false, length, Ok, IfOk, IfErr, IsTrue};
+ghost use Rattle.pipe_types.specs.{Sound.{IsSound}, declared.step.Step.{Step}};
+ghost use Rattle.pipe_model.specs.{Begins.{BeginsWith}, History.{History}};
+ghost use Rattle.pipe_journal.specs.Acked.{AreAcked, IsLog};
+ghost use Rattle.journal_texts.specs.Acks.{ack_text};
+ghost use Rattle.ack_texts.specs.Lines.{step_acks};
 ghost use Rattle.ack_feed.specs.Fed.{IsFed, Failing, is_failed, sent_after};
-ghost use Rattle.ack_feed.specs.{Feeds.{line_of}, Moves.{watch_end}};
+ghost use Rattle.ack_feed.specs.Moves.{watch_end};
 
-use crate::cursor::AckCursor;
 use crate::lines::{FeedEnd, LineFeed};
-use ack_texts::put_line;
-use message_ack::Ack;
+use ack_texts::{group_len, group_text, rows_from};
 use pipe_edges::ByteSink;
-use pipe_journal::{Journal, Watch, WatchEnd};
+use pipe_journal::{AckRow, Journal, Watch, WatchEnd};
 use pipe_types::bytes::Bytes;
-use pipe_types::numbers::StageNo;
 use pipe_types::topology::Topology;
 use std::alloc::{AllocError, Global};
+use std::snapshot::Snapshot;
 
-/// A cursor, and a feed of the lines of what it acknowledges.
+/// A place in a journal, up to which the lines of what its steps acknowledge were sent to a feed. It remembers as an `O` what its sink
+/// was at first.
 #[derive(Drop)]
-pub struct AckFeed<K> {
+pub struct FeedSince<K, O> {
     alloc: Global,
-    cursor: AckCursor,
+    topology: Topology,
+    // The sink as it was when the feed was made.
+    opened: O,
     feed: LineFeed<K>,
-    // The lines of the cursor's last step that were not sent, since a write failed; the last first.
-    unsent: Vec<Bytes>,
+    // How many steps of the journal it has seen.
+    shown: u64,
 }
 
+/// A feed of acknowledgements. A snapshot of its sink takes no memory.
+pub type AckFeed<K> = FeedSince<K, Snapshot<K>>;
+
 impl<K: ByteSink> AckFeed<K> {
-    ghost use Rattle.ack_feed.specs.Feeds.{cursor_of, feed_of, to_come, unsent_text, begun_by, held_by, Stands};
+    ghost use Rattle.ack_feed.specs.Feeds.{topology_of, shown_of, opened_of, feed_of, begun_by, held_by, Flows, Stands};
     ghost use Rattle.ack_feed.specs.Lines.{sink_of, held_lines, pending, room_of, room_made, has_failed};
-    ghost use Rattle.ack_feed.specs.Moves.{Flows, ended_failed};
+    ghost use Rattle.ack_feed.specs.Moves.{Follows, SentBy, ended_failed};
     ghost use Rattle.ack_feed.specs.declared.lines.FeedEnd.TheVariants.{Done};
 
-    /// A feed of the lines of this cursor, to this sink. It takes the memory for `room` lines here. Where memory is wanting both are
-    /// given back.
+    /// A feed of the acknowledgements of a journal of this topology, before its first step, to this sink. It takes the memory for
+    /// `room` texts here. Where memory is wanting both are given back.
     pub fn new(
         alloc: Global,
-        cursor: AckCursor,
+        topology: Topology,
         sink: K,
         room: u16,
-    ) -> Result<AckFeed<K>, (AckCursor, K, AllocError)>
+    ) -> Result<AckFeed<K>, (Topology, K, AllocError)>
+        requires sound { IsSound topology }
         requires least { 1 ≤ room }
         requires most { room ≤ 64 }
-        ensures cursor { IfOk result (λ f. cursor_of f ≡ cursor) }
+        ensures topology { IfOk result (λ f. topology_of f ≡ topology) }
         ensures sink { IfOk result (λ f. sink_of (feed_of f) ≡ sink) }
         ensures empty { IfOk result (λ f. held_lines (feed_of f) ≡ []) }
         ensures room { IfOk result (λ f. room_of (feed_of f) ≡ room) }
         ensures whole { IfOk result (λ f. has_failed (feed_of f) ≡ false) }
-        ensures stands { cursor.steps ≡ [] → IfOk result (λ f. Stands K.told K.held f []) }
-        ensures begun { cursor.steps ≡ [] → IfOk result (λ f. begun_by K.told K.held f ≡ held_by K.told K.held sink) }
-        ensures returned { IfErr result (λ e. (e.0 ≡ cursor) × (e.1 ≡ sink)) }
+        ensures stands { IfOk result (λ f. Stands K.told K.held f []) }
+        ensures begun { IfOk result (λ f. begun_by K.told K.held f ≡ held_by K.told K.held sink) }
+        ensures returned { IfErr result (λ e. (e.0 ≡ topology) × (e.1 ≡ sink)) }
     {
+        let opened = Snapshot::of(&sink);
         match LineFeed::new(alloc, sink, room) {
-            Ok(feed) => Ok(AckFeed {
+            Ok(feed) => Ok(FeedSince {
                 alloc,
-                cursor,
+                topology,
+                opened,
                 feed,
-                unsent: Vec::new(alloc),
+                shown: 0,
             }),
-            Err((sink, failed)) => Err((cursor, sink, failed)),
+            Err((sink, failed)) => Err((topology, sink, failed)),
         }
     }
 
@@ -78,7 +86,7 @@ impl<K: ByteSink> AckFeed<K> {
         ensures fed { (begun : List ℕ) (sent : List (List ℕ)) → IsTrue (K.told (sink_of (feed_of self.old)))
             → IsFed begun sent (K.held (sink_of (feed_of self.old))) (pending (feed_of self.old))
             → IsFed begun (sent_after result sent line) (K.held (sink_of (feed_of self.new))) (pending (feed_of self.new)) }
-        ensures cursor { cursor_of self.new ≡ cursor_of self.old }
+        ensures place { (topology_of self.new ≡ topology_of self.old) × (shown_of self.new ≡ shown_of self.old) × (opened_of self.new ≡ opened_of self.old) }
         ensures held { result ≡ FeedEnd.Done → held_lines (feed_of self.new) ≡ room_made (room_of (feed_of self.old)) (held_lines (feed_of self.old)) ++ line ∷ [] }
         ensures waits { length (held_lines (feed_of self.old)) < room_of (feed_of self.old) → sink_of (feed_of self.new) ≡ sink_of (feed_of self.old) }
         ensures same_telling { K.told (sink_of (feed_of self.new)) ≡ K.told (sink_of (feed_of self.old)) }
@@ -96,7 +104,7 @@ impl<K: ByteSink> AckFeed<K> {
         ensures fed { (begun : List ℕ) (sent : List (List ℕ)) → IsTrue (K.told (sink_of (feed_of self.old)))
             → IsFed begun sent (K.held (sink_of (feed_of self.old))) (pending (feed_of self.old))
             → IsFed begun sent (K.held (sink_of (feed_of self.new))) (pending (feed_of self.new)) }
-        ensures cursor { cursor_of self.new ≡ cursor_of self.old }
+        ensures place { (topology_of self.new ≡ topology_of self.old) × (shown_of self.new ≡ shown_of self.old) × (opened_of self.new ≡ opened_of self.old) }
         ensures empty { has_failed (feed_of self.new) ≡ false → held_lines (feed_of self.new) ≡ [] }
         ensures all { has_failed (feed_of self.new) ≡ false → pending (feed_of self.new) ≡ [] }
         ensures same_telling { K.told (sink_of (feed_of self.new)) ≡ K.told (sink_of (feed_of self.old)) }
@@ -109,93 +117,70 @@ impl<K: ByteSink> AckFeed<K> {
         self.feed.flush()
     }
 
-    // Sends these lines, the last first, as many as go before a write fails, and keeps the others.
-    fn send_all(&mut self, lines: Vec<Bytes>) -> FeedEnd
+    // Sends the lines of the rows of one step, and has then seen so many steps. Where a write fails or memory is wanting it stays where
+    // it was.
+    fn send_group(&mut self, rows: &[AckRow], next: u64) -> Result<FeedEnd, AllocError>
+        requires sound { IsSound (topology_of self.old) }
         requires whole { has_failed (feed_of self.old) ≡ false }
-        requires none { unsent_text self.old ≡ [] }
-        ensures cursor { cursor_of self.new ≡ cursor_of self.old }
-        ensures fed { (begun : List ℕ) (sent : List (List ℕ)) → IsTrue (K.told (sink_of (feed_of self.old)))
-            → IsFed begun sent (K.held (sink_of (feed_of self.old))) (pending (feed_of self.old))
-            → IsFed begun (sent ++ reverse lines.items) (K.held (sink_of (feed_of self.new))) (to_come self.new) }
-        ensures failed { has_failed (feed_of self.new) ≡ is_failed result }
-        ensures none { has_failed (feed_of self.new) ≡ false → unsent_text self.new ≡ [] }
-        ensures same_telling { K.told (sink_of (feed_of self.new)) ≡ K.told (sink_of (feed_of self.old)) }
-        ensures faults_stay { K.faults (sink_of (feed_of self.old)) ≤ K.faults (sink_of (feed_of self.new)) }
-        ensures cause { Failing false (K.faults (sink_of (feed_of self.old))) (K.faults (sink_of (feed_of self.new))) result }
-    {
-        let mut rest = lines;
-        'lines: while !rest.is_empty() {
-            if self.feed.make_room() == FeedEnd::Failed {
-                self.unsent = rest;
-                return FeedEnd::Failed;
-            }
-            if let Some(line) = rest.pop() {
-                self.feed.push(line);
-            }
-        }
-        FeedEnd::Done
-    }
-
-    // Goes on by the step of the journal at the cursor's place, and sends the lines of what it acknowledges. Where memory is wanting
-    // the cursor stays where it was.
-    fn go_on(&mut self, journal: &Journal) -> Result<FeedEnd, AllocError>
-        requires legal { is_legal (cursor_of self.old).topology journal.now.steps ≡ true }
-        requires begins { BeginsWith journal.now.steps (cursor_of self.old).steps }
-        requires more { length (cursor_of self.old).steps < length journal.now.steps }
-        requires whole { has_failed (feed_of self.old) ≡ false }
-        requires none { unsent_text self.old ≡ [] }
-        ensures fed { (begun : List ℕ) → Flows K.told K.held begun self.old → Flows K.told K.held begun self.new }
-        ensures topology { (cursor_of self.new).topology ≡ (cursor_of self.old).topology }
-        ensures begins { BeginsWith journal.now.steps (cursor_of self.new).steps }
-        ensures further { OnOk result (length (cursor_of self.old).steps < length (cursor_of self.new).steps) }
+        ensures sent { (before middle : History) (step : Step) → AreAcked (topology_of self.old) middle step rows.now
+            → ack_text (topology_of self.old) (step ∷ middle) ≡ ack_text (topology_of self.old) before ++ step_acks (topology_of self.old) middle step
+            → Flows K.told K.held self.old before → SentBy result K.told K.held self.old self.new next before (step ∷ middle) }
+        ensures topology { topology_of self.new ≡ topology_of self.old }
+        ensures opened { opened_of self.new ≡ opened_of self.old }
         ensures failed { has_failed (feed_of self.new) ≡ ended_failed result }
-        ensures none { has_failed (feed_of self.new) ≡ false → unsent_text self.new ≡ [] }
         ensures same_telling { K.told (sink_of (feed_of self.new)) ≡ K.told (sink_of (feed_of self.old)) }
         ensures faults_stay { K.faults (sink_of (feed_of self.old)) ≤ K.faults (sink_of (feed_of self.new)) }
         ensures cause { IfOk result (Failing false (K.faults (sink_of (feed_of self.old))) (K.faults (sink_of (feed_of self.new)))) }
     {
-        let step = journal.view(self.cursor.len()).to_step(self.alloc)?;
-        let acks = self.cursor.step(&step)?;
-        match lines_of(self.alloc, self.cursor.topology(), acks.as_slice()) {
-            Ok(lines) => Ok(self.send_all(lines)),
-            Err(failed) => {
-                self.cursor.step_back();
-                Err(failed)
+        if self.feed.make_room() == FeedEnd::Failed {
+            return Ok(FeedEnd::Failed);
+        }
+        match group_text(self.alloc, &self.topology, rows) {
+            Ok(text) => {
+                self.feed.push(text);
+                self.shown = next;
+                Ok(FeedEnd::Done)
             }
+            Err(failed) => Err(failed),
         }
     }
 
-    // Goes on by all the new steps of the journal, and stops where a write fails or memory is wanting.
-    fn catch_up(&mut self, journal: &Journal) -> Result<FeedEnd, AllocError>
-        requires legal { is_legal (cursor_of self.old).topology journal.now.steps ≡ true }
-        requires begins { BeginsWith journal.now.steps (cursor_of self.old).steps }
+    // Goes on by all the new steps of the journal, whose log has these rows, and stops where a write fails or memory is wanting.
+    fn catch_up(&mut self, journal: &Journal, rows: &[AckRow]) -> Result<FeedEnd, AllocError>
+        requires sound { IsSound (topology_of self.old) }
+        requires log { IsLog (topology_of self.old) journal.now.steps rows.now }
+        requires follows { Follows K.told K.held self.old journal.now.steps }
         requires whole { has_failed (feed_of self.old) ≡ false }
-        requires none { unsent_text self.old ≡ [] }
-        ensures fed { (begun : List ℕ) → Flows K.told K.held begun self.old → Flows K.told K.held begun self.new }
-        ensures topology { (cursor_of self.new).topology ≡ (cursor_of self.old).topology }
-        ensures begins { BeginsWith journal.now.steps (cursor_of self.new).steps }
-        ensures all { result ≡ Ok Done → (cursor_of self.new).steps ≡ journal.now.steps }
+        ensures follows { Follows K.told K.held self.new journal.now.steps }
+        ensures all { result ≡ Ok Done → (shown_of self.new ≡ length journal.now.steps) × Flows K.told K.held self.new journal.now.steps }
+        ensures topology { topology_of self.new ≡ topology_of self.old }
+        ensures opened { opened_of self.new ≡ opened_of self.old }
         ensures failed { has_failed (feed_of self.new) ≡ ended_failed result }
-        ensures none { has_failed (feed_of self.new) ≡ false → unsent_text self.new ≡ [] }
         ensures same_telling { K.told (sink_of (feed_of self.new)) ≡ K.told (sink_of (feed_of self.old)) }
         ensures faults_stay { K.faults (sink_of (feed_of self.old)) ≤ K.faults (sink_of (feed_of self.new)) }
         ensures cause { IfOk result (Failing false (K.faults (sink_of (feed_of self.old))) (K.faults (sink_of (feed_of self.new)))) }
     {
-        'steps: while self.cursor.len() < journal.len() {
-            let end = self.go_on(journal)?;
-            if end == FeedEnd::Failed {
-                return Ok(FeedEnd::Failed);
+        let steps = journal.len();
+        let mut start = rows_from(rows, self.shown);
+        'groups: while start < rows.len() {
+            let end = start + group_len(&rows[start..]);
+            let next = steps_upto(&rows[start], steps);
+            match self.send_group(&rows[start..end], next) {
+                Ok(FeedEnd::Done) => start = end,
+                Ok(FeedEnd::Failed) => return Ok(FeedEnd::Failed),
+                Err(failed) => return Err(failed),
             }
         }
+        self.shown = steps;
         Ok(FeedEnd::Done)
     }
 }
 
 impl<K: ByteSink + Send> Watch for AckFeed<K> {
-    ghost use Rattle.ack_feed.specs.Feeds.{cursor_of, feed_of, begun_by, Stands};
+    ghost use Rattle.ack_feed.specs.Feeds.{topology_of, feed_of, begun_by, Stands};
     ghost use Rattle.ack_feed.specs.Lines.{sink_of, has_failed};
 
-    ghost fits = { λ f topology. (cursor_of f).topology ≡ topology };
+    ghost fits = { λ f topology. topology_of f ≡ topology };
 
     ghost begun = { λ f. begun_by K.told K.held f };
 
@@ -207,7 +192,7 @@ impl<K: ByteSink + Send> Watch for AckFeed<K> {
 
     /// Goes on over the new steps, sends the line of each acknowledgement, and writes all that is held; also where memory is wanting.
     fn seen(&mut self, journal: &Journal) -> WatchEnd {
-        match self.catch_up(journal) {
+        match self.catch_up(journal, journal.acked()) {
             Ok(FeedEnd::Failed) => WatchEnd::Failed,
             Ok(FeedEnd::Done) => end_of(self.feed.flush(), WatchEnd::Done),
             Err(_) => end_of(self.feed.flush(), WatchEnd::OutOfMemory),
@@ -225,38 +210,10 @@ fn end_of(end: FeedEnd, done: WatchEnd) -> WatchEnd
     }
 }
 
-/// The line of each acknowledgement, the last first.
-fn lines_of(alloc: Global, topology: &Topology, acks: &[Ack]) -> Result<Vec<Bytes>, AllocError>
-    ensures { IfOk result (λ lines. reverse lines.items ≡ map (line_of topology.now) (acknowledgements_in acks.now)) }
+/// How many steps there are up to that of the row, of so many in all.
+fn steps_upto(row: &AckRow, steps: u64) -> u64
+    requires { row.now.at < steps }
+    ensures { result ≡ row.now.at + 1 }
 {
-    let mut lines = Vec::with_capacity(alloc, acks.len())?;
-    for ack in acks {
-        lines.push(line_of_ack(alloc, topology, ack)?)?;
-    }
-    lines.reverse();
-    Ok(lines)
-}
-
-/// The line of an acknowledgement.
-fn line_of_ack(alloc: Global, topology: &Topology, ack: &Ack) -> Result<Bytes, AllocError>
-    ensures { IfOk result (λ line. line ≡ line_of topology.now (acknowledgement ack.now)) }
-{
-    let mut text = Vec::new(alloc);
-    put_line(
-        &mut text,
-        name_of(topology, ack.producer),
-        ack.successful.as_slice(),
-        ack.failed.as_slice(),
-    )?;
-    Ok(Bytes::from_vec(text))
-}
-
-/// The name of the producer.
-fn name_of(topology: &Topology, producer: StageNo) -> &[u8]
-    ensures { result.now ≡ name_in (spec_of topology.now producer) }
-{
-    match topology.stages.find(producer) {
-        Some(spec) => spec.name.as_str().as_bytes(),
-        None => &[],
-    }
+    row.at + 1
 }

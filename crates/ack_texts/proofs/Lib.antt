@@ -1,6 +1,6 @@
-pub mod Settling
-pub mod Rows
-pub mod Ascending
-pub mod Texts
-pub mod Grouping
-pub mod Writing
+pub mod Ranges
+pub mod Members
+pub mod Logged
+pub mod Cuts
+pub mod Along
+pub mod Entries

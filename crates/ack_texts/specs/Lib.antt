@@ -1,1 +1,4 @@
+pub mod Logs
+pub mod Sides
+pub mod Lines
 pub mod Groups

@@ -1,98 +1,104 @@
-//! The acknowledged messages, by the steps that acknowledged them.
+//! A log of acknowledged messages, step by step.
 
-ghost use Rattle.std.specs.Prelude.{◌≡◌, ◌++◌, ◌∷◌, [], ◌<◌, List, ℕ, IfOk, OnOk, Some, is_some, map, replicate, slice_get, slice_set, slice_index_or, vec_len};
-ghost use Rattle.pipe_types.specs.declared.state.PlaceRow.{PlaceRow};
-ghost use Rattle.ack_texts.specs.Groups.{Adds, indices, lists, verdict_at as verdict_at_place, verdict_of as verdict_of_row, verdicts_by, verdicts_in, verdicts_of as verdicts_of_places};
+ghost use Rattle.std.specs.Prelude.{◌≡◌, ◌<◌, ◌≤◌, ◌++◌, true, false, IsTrue, length, take, drop};
+ghost use Rattle.pipe_types.specs.{Counts.{Rose}, Sound.{IsSound}};
+ghost use Rattle.pipe_model.specs.History.{History};
+ghost use Rattle.pipe_journal.specs.Acked.{IsLog};
+ghost use Rattle.journal_texts.specs.{Acks.{ack_text}, Streams.{Begun}};
+ghost use Rattle.ack_texts.specs.Groups.{Early, IsGroup, Late, Rising};
 
-use message_ack::Verdict;
-use pipe_types::message::Place;
-use pipe_types::state::PlaceRow;
-use std::alloc::{AllocError, Global};
+use crate::lines::put_group;
+use journal_texts::sink::TextSink;
+use journal_texts::stream::{Streamed, write_streamed};
+use pipe_edges::ByteSink;
+use pipe_journal::{AckRow, Journal};
+use pipe_types::topology::Topology;
+use std::alloc::Global;
 
-fn is_acked(row: &PlaceRow) -> bool
-    ensures { result ≡ is_some (verdict_of_row row.now) }
+/// How many rows stand in front of those of the steps from place `at` on, in rows whose places do not fall. It looks at no other
+/// rows than these and one more.
+pub fn rows_from(rows: &[AckRow], at: u64) -> usize
+    ensures within { result ≤ length rows.now }
+    ensures late { Late at (drop result rows.now) }
+    ensures early { Rising 0 rows.now → Early at (take result rows.now) }
 {
-    matches!(row.place, Place::Acked(_))
-}
-
-fn empty_groups(alloc: Global, count: usize) -> Result<Vec<Vec<usize>>, AllocError>
-    ensures { IfOk result (λ groups. lists groups.items ≡ replicate count []) }
-{
-    let mut groups = Vec::with_capacity(alloc, count)?;
-    for _i in 0..count {
-        groups.push(Vec::new(alloc))?;
+    let mut count = rows.len();
+    'rows: while count > 0 && rows[count - 1].at >= at {
+        count -= 1;
     }
-    Ok(groups)
+    count
 }
 
-fn put_place(groups: &mut Vec<Vec<usize>>, at: usize, place: usize) -> Result<(), AllocError>
-    requires { at < vec_len groups.old }
-    ensures { OnOk result (lists groups.new.items ≡ slice_set (lists groups.old.items) at (slice_index_or (lists groups.old.items) at [] ++ place ∷ [])) }
+/// How many rows, from the first on, are of the step of the first one.
+pub fn group_len(rows: &[AckRow]) -> usize
+    requires { 0 < length rows.now }
+    ensures some { 0 < result }
+    ensures within { result ≤ length rows.now }
+    ensures group { IsGroup (take result rows.now) (drop result rows.now) }
 {
-    groups[at].push(place)?;
-    Ok(())
+    let at = rows[0].at;
+    let mut count = 1;
+    'rows: while count < rows.len() && rows[count].at == at {
+        count += 1;
+    }
+    count
 }
 
-/// Puts the place of the row into the group of its step, where its message is acknowledged.
-fn put_row(groups: &mut Vec<Vec<usize>>, place: usize, row: &PlaceRow) -> Result<(), AllocError>
-    ensures { OnOk result ((rows : List PlaceRow) → slice_get rows place ≡ Some row.now → Adds (verdicts_in rows groups.old.items) row.now (verdicts_in rows groups.new.items)) }
+/// Writes the lines of the groups of a log, one after another.
+fn put_groups<W: TextSink>(out: &mut W, topology: &Topology, rows: &[AckRow])
+    requires sound { IsSound topology.now }
+    ensures { (steps : History) → IsLog topology.now steps rows.now → W.puts out.old out.new (ack_text topology.now steps) }
 {
-    let at = row.at as usize;
-    if groups.len() <= at {
-        return Ok(());
+    let mut start = 0;
+    'groups: while start < rows.len() {
+        let end = start + group_len(&rows[start..]);
+        put_group(out, topology, &rows[start..end]);
+        start = end;
     }
-    if !is_acked(row) {
-        return Ok(());
-    }
-    put_place(groups, at, place)?;
-    Ok(())
 }
 
-/// For each of so many steps, in their order, the places of the rows whose messages it acknowledged.
-pub(crate) fn groups_by_step(
+/// Writes the acknowledgements of a run, a line for each, in the order of the steps and then of the producers: the producer's name,
+/// the numbers of its messages that succeeded by that step, and the numbers of those that failed.
+pub fn put_acks<W: TextSink>(out: &mut W, topology: &Topology, journal: &Journal)
+    requires sound { IsSound topology.now }
+    requires log { IsLog topology.now journal.now.steps journal.now.acked.rows }
+    ensures { W.puts out.old out.new (ack_text topology.now journal.now.steps) }
+{
+    put_groups(out, topology, journal.acked());
+}
+
+// The text of a run's acknowledgements.
+#[derive(Clone, Copy)]
+struct AckText<'a> {
+    topology: &'a Topology,
+    journal: &'a Journal,
+}
+
+impl Streamed for AckText<'_> {
+    ghost fits = { λ t. IsSound t.topology.now × IsLog t.topology.now t.journal.now.steps t.journal.now.acked.rows };
+
+    ghost text = { λ t. ack_text t.topology.now t.journal.now.steps };
+
+    fn put_on<W: TextSink>(&self, out: &mut W) {
+        put_acks(out, self.topology, self.journal);
+    }
+}
+
+/// Writes the acknowledgements of a run in pieces, and answers whether all of them were written. It needs no memory: where there is
+/// none for a piece, its parts are written one by one.
+pub fn write_acks<K: ByteSink>(
     alloc: Global,
-    rows: &[PlaceRow],
-    steps: usize,
-) -> Result<Vec<Vec<usize>>, AllocError>
-    ensures { IfOk result (λ groups. verdicts_in rows.now groups.items ≡ map (verdicts_by rows.now) (indices steps)) }
+    sink: &mut K,
+    topology: &Topology,
+    journal: &Journal,
+) -> bool
+    requires sound { IsSound topology.now }
+    requires log { IsLog topology.now journal.now.steps journal.now.acked.rows }
+    ensures told { K.told sink.new ≡ K.told sink.old }
+    ensures stay { K.faults sink.old ≤ K.faults sink.new }
+    ensures fault { result ≡ false → Rose (K.faults sink.old) (K.faults sink.new) }
+    ensures whole { result ≡ true → IsTrue (K.told sink.old) → K.held sink.new ≡ K.held sink.old ++ ack_text topology.now journal.now.steps }
+    ensures begun { IsTrue (K.told sink.old) → Begun (K.held sink.old) (K.held sink.new) (ack_text topology.now journal.now.steps) }
 {
-    let mut groups = empty_groups(alloc, steps)?;
-    for (place, row) in rows.iter().enumerate() {
-        put_row(&mut groups, place, row)?;
-    }
-    Ok(groups)
-}
-
-/// The verdict on the message of the row, where it is acknowledged.
-fn verdict_of(row: &PlaceRow) -> Option<Verdict>
-    ensures { result ≡ verdict_of_row row.now }
-{
-    match row.place {
-        Place::Acked(outcome) => Some(Verdict {
-            no: row.no,
-            producer: row.producer,
-            outcome,
-        }),
-        _ => None,
-    }
-}
-
-fn verdict_at(rows: &[PlaceRow], place: usize) -> Option<Verdict>
-    ensures { result ≡ verdict_at_place (slice_get rows.now place) }
-{
-    verdict_of(rows.get(place)?)
-}
-
-/// The verdicts of the rows at these places, in their order.
-pub(crate) fn verdicts_of(
-    alloc: Global,
-    rows: &[PlaceRow],
-    places: &[usize],
-) -> Result<Vec<Verdict>, AllocError>
-    ensures { IfOk result (λ verdicts. verdicts.items ≡ verdicts_of_places rows.now places.now) }
-{
-    places
-        .iter()
-        .filter_map(|place| verdict_at(rows, *place))
-        .collect(alloc)
+    write_streamed(alloc, sink, &AckText { topology, journal })
 }

@@ -1,15 +1,17 @@
-//! The text of the acknowledgements of a run, from the places of its messages.
+//! The text of the acknowledgements of a run, from its journal's log of acknowledged messages.
 //!
-//! `ack_text` writes exactly the text that the specification of `journal_texts` defines: a line for each
-//! acknowledgement, in the order of the steps. It groups the acknowledged messages by the step that acknowledged them,
-//! and `message_ack` makes the acknowledgements of each step. The journal need not be legal. Only want of memory makes
-//! it fail.
+//! `put_acks` writes exactly the text that the specification of `journal_texts` defines: a line for each acknowledgement, in the
+//! order of the steps and then of the producers. It goes along the log, a group of rows of one step after another. `put_group`
+//! writes the lines of one group, so whoever keeps a place in the log (`rows_from`, `group_len`) writes what is new at the cost of
+//! that alone. The numbers of a line ascend, whatever the order of the rows is; they are found by windows of numbers, so no memory
+//! is taken. `write_acks` writes the text to a sink of bytes in pieces.
 #![tactic(auto)]
 
-mod acks;
 mod groups;
 mod lines;
+mod sides;
+mod windows;
 mod words;
 
-pub use acks::ack_text;
-pub use lines::put_line;
+pub use groups::{group_len, put_acks, rows_from, write_acks};
+pub use lines::{group_text, put_group};

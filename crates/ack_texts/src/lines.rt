@@ -1,102 +1,78 @@
-//! The lines of the acknowledgements.
+//! The lines of what one step acknowledges.
 
-ghost use Rattle.std.specs.{Prelude.{◌≡◌, ◌++◌, All, IfOk, OnOk, codes, find, map, option_copied}, List.{flat_map}};
-ghost use Rattle.pipe_types.specs.Numbers.{same_stage};
+ghost use Rattle.std.specs.Prelude.{◌≡◌, ◌||◌, ℕ, List, true, false, is_some, IfOk};
+ghost use Rattle.pipe_types.specs.{Sound.{IsSound}, declared.step.Step.{Step}};
+ghost use Rattle.pipe_model.specs.History.{History};
+ghost use Rattle.pipe_journal.specs.Acked.{AreAcked};
 ghost use Rattle.journal_texts.specs.Acks.{ack_line};
-ghost use Rattle.ack_texts.specs.Groups.{InOrder, line_of, lines_of, verdicts_in};
+ghost use Rattle.ack_texts.specs.{Lines.{line_if_any, step_acks}, Logs.{numbers_by}, Sides.{IsLeast, IsSide}};
 
-use crate::groups::verdicts_of;
-use crate::words::{put, put_numbers};
-use message_ack::{Ack, Verdict, group};
-use pipe_types::numbers::{MsgNo, StageNo};
-use pipe_types::state::PlaceRow;
-use pipe_types::topology::StageSpec;
+use crate::sides::least;
+use crate::windows::put_side;
+use journal_texts::memory::MemoryText;
+use journal_texts::sink::TextSink;
+use pipe_journal::AckRow;
+use pipe_types::bytes::Bytes;
+use pipe_types::topology::{StageSpec, Topology};
 use std::alloc::{AllocError, Global};
 
-/// The acknowledgement to the producer.
-fn find_ack(acks: &[Ack], producer: StageNo) -> Option<&Ack>
-    ensures { option_copied result ≡ find (λ ack. same_stage ack.producer producer) acks.now }
+/// Writes the line of the stage, of whose sides the first numbers were found.
+fn put_line<W: TextSink>(
+    out: &mut W,
+    spec: &StageSpec,
+    rows: &[AckRow],
+    won: Option<u32>,
+    lost: Option<u32>,
+)
+    requires won { IsLeast (numbers_by rows.now spec.now.no true) 0 won }
+    requires lost { IsLeast (numbers_by rows.now spec.now.no false) 0 lost }
+    ensures { (successful failed : List ℕ) → IsSide 0 (numbers_by rows.now spec.now.no true) successful → IsSide 0 (numbers_by rows.now spec.now.no false) failed
+        → W.puts out.old out.new (ack_line spec.now.name successful failed) }
 {
-    acks.iter().find(|ack| ack.producer.0 == producer.0)
+    out.put(b"ack ");
+    out.put(spec.name.as_str().as_bytes());
+    out.put(b" ok ");
+    put_side(out, rows, spec.no, true, won);
+    out.put(b" failed ");
+    put_side(out, rows, spec.no, false, lost);
+    out.put(b"\n");
 }
 
-/// Writes the line of an acknowledgement to the producer with this name at the end of the text.
-#[tactic(auto, using(std::proofs::lemmas::List::append_assoc))]
-pub fn put_line(
-    out: &mut Vec<u8>,
-    name: &[u8],
-    successful: &[MsgNo],
-    failed: &[MsgNo],
-) -> Result<(), AllocError>
-    ensures { OnOk result (out.new.items ≡ out.old.items ++ ack_line name.now (map (λ no. no.0) successful.now) (map (λ no. no.0) failed.now)) }
+/// Whether one of both was found.
+fn is_any(won: Option<u32>, lost: Option<u32>) -> bool
+    ensures { result ≡ (is_some won || is_some lost) }
 {
-    put(out, b"ack ")?;
-    put(out, name)?;
-    put(out, b" ok ")?;
-    put_numbers(out, successful)?;
-    put(out, b" failed ")?;
-    put_numbers(out, failed)?;
-    put(out, b"\n")
+    won.is_some() || lost.is_some()
 }
 
-/// Writes the stage's line, where one of the acknowledgements is to it.
-fn put_line_of(out: &mut Vec<u8>, spec: &StageSpec, acks: &[Ack]) -> Result<(), AllocError>
-    ensures { OnOk result (out.new.items ≡ out.old.items ++ line_of acks.now spec.now) }
+/// Writes the line of the stage, where one of the rows is its.
+fn put_line_of<W: TextSink>(out: &mut W, spec: &StageSpec, rows: &[AckRow])
+    ensures { (successful failed : List ℕ) → IsSide 0 (numbers_by rows.now spec.now.no true) successful → IsSide 0 (numbers_by rows.now spec.now.no false) failed
+        → W.puts out.old out.new (line_if_any spec.now.name successful failed) }
 {
-    let Some(ack) = find_ack(acks, spec.no) else {
-        return Ok(());
-    };
-    put_line(
-        out,
-        spec.name.as_str().as_bytes(),
-        ack.successful.as_slice(),
-        ack.failed.as_slice(),
-    )
-}
-
-/// Writes the lines of these acknowledgements, in the order of the stages.
-fn put_acks(out: &mut Vec<u8>, stages: &[StageSpec], acks: &[Ack]) -> Result<(), AllocError>
-    ensures { OnOk result (out.new.items ≡ out.old.items ++ flat_map (line_of acks.now) stages.now) }
-{
-    for spec in stages {
-        put_line_of(out, spec, acks)?;
+    let won = least(rows, spec.no, true, 0);
+    let lost = least(rows, spec.no, false, 0);
+    if is_any(won, lost) {
+        put_line(out, spec, rows, won, lost);
     }
-    Ok(())
 }
 
-/// Writes the lines of what these verdicts acknowledge, in the order of the stages.
-#[tactic(auto, using(crate::proofs::Writing::no_lines))]
-fn put_lines_of(
-    alloc: Global,
-    out: &mut Vec<u8>,
-    stages: &[StageSpec],
-    verdicts: &[Verdict],
-) -> Result<(), AllocError>
-    requires { InOrder verdicts.now }
-    ensures { OnOk result (out.new.items ≡ out.old.items ++ lines_of stages.now verdicts.now) }
+/// Writes the lines of what a step acknowledges, of which these are the rows in the journal's log, in the order of the stages.
+pub fn put_group<W: TextSink>(out: &mut W, topology: &Topology, rows: &[AckRow])
+    requires sound { IsSound topology.now }
+    ensures { (before : History) (step : Step) → AreAcked topology.now before step rows.now → W.puts out.old out.new (step_acks topology.now before step) }
 {
-    if verdicts.is_empty() {
-        return Ok(());
+    for spec in topology.stages.as_slice() {
+        put_line_of(out, spec, rows);
     }
-    let acks = group(alloc, verdicts)?;
-    put_acks(out, stages, acks.as_slice())?;
-    Ok(())
 }
 
-/// Writes the lines of what each step acknowledged, of which a group has the places of the rows.
-pub(crate) fn put_lines(
-    alloc: Global,
-    out: &mut Vec<u8>,
-    stages: &[StageSpec],
-    rows: &[PlaceRow],
-    groups: &[Vec<usize>],
-) -> Result<(), AllocError>
-    requires { All InOrder (verdicts_in rows.now groups.now) }
-    ensures { OnOk result (out.new.items ≡ out.old.items ++ flat_map (lines_of stages.now) (verdicts_in rows.now groups.now)) }
+/// The lines of what a step acknowledges, of which these are the rows in the journal's log.
+pub fn group_text(alloc: Global, topology: &Topology, rows: &[AckRow]) -> Result<Bytes, AllocError>
+    requires sound { IsSound topology.now }
+    ensures { IfOk result (λ text. (before : History) (step : Step) → AreAcked topology.now before step rows.now → text ≡ step_acks topology.now before step) }
 {
-    for places in groups {
-        let verdicts = verdicts_of(alloc, rows, places)?;
-        put_lines_of(alloc, out, stages, &verdicts)?;
-    }
-    Ok(())
+    let mut out = MemoryText::new(alloc);
+    put_group(&mut out, topology, rows);
+    out.into_bytes()
 }

@@ -32,7 +32,7 @@ use Rattle.pipe_model.specs.Work.{same_message, same_reply, same_replies, are_re
 use Rattle.pipe_model.specs.Lives.{is_live}
 use Rattle.pipe_model.specs.Legal.{is_legal, allows, has_role, are_records, fetch_out, is_current, is_producer_role, is_processor_role, is_supervisor_role}
 use Rattle.pipe_laws.proofs.Tests.{clash, and_left, and_right, both}
-use Rattle.pipe_laws.proofs.Levels.{rank_of}
+use Rattle.pipe_laws.proofs.Levels.{next_rank, rank_of}
 use Rattle.pipe_laws.proofs.Allowed.{legal_before, legal_step, unowed, done_facts, late_facts}
 use Rattle.pipe_laws.proofs.Contents.{newer_cases}
 use Rattle.stage_laws.proofs.Groups.{fields_of}
@@ -41,29 +41,6 @@ use Rattle.stage_callback.proofs.Shapes.{eval_shape}
 use Rattle.body_laws.proofs.Posts.{some_role}
 
 -- ---- a supervisor has no batchers
-
-next_ranks : (r q : Role) (a b : StageSpec) → is_next r q a b ≡ true → rank_of r ≤ rank_of q
-next_ranks Producer q a b h = omega arith
-next_ranks Processor Producer a b h = cc
-next_ranks Processor Processor a b h = omega arith
-next_ranks Processor Supervisor a b h = cc
-next_ranks Processor Batcher a b h = omega arith
-next_ranks Processor BatchProcessor a b h = cc
-next_ranks Supervisor Producer a b h = cc
-next_ranks Supervisor Processor a b h = cc
-next_ranks Supervisor Supervisor a b h = cc
-next_ranks Supervisor Batcher a b h = cc
-next_ranks Supervisor BatchProcessor a b h = cc
-next_ranks Batcher Producer a b h = cc
-next_ranks Batcher Processor a b h = cc
-next_ranks Batcher Supervisor a b h = cc
-next_ranks Batcher Batcher a b h = omega arith
-next_ranks Batcher BatchProcessor a b h = omega arith
-next_ranks BatchProcessor Producer a b h = cc
-next_ranks BatchProcessor Processor a b h = cc
-next_ranks BatchProcessor Supervisor a b h = cc
-next_ranks BatchProcessor Batcher a b h = cc
-next_ranks BatchProcessor BatchProcessor a b h = omega arith
 
 follows : (s t : StageSpec) → may_follow s t ≡ true → is_next s.role t.role s t ≡ true
 follows s t h = and_right (t.no.0 == s.no.0 + 1) _ h
@@ -80,7 +57,7 @@ found_rank n s (t ∷ rest) pick x h e = either (pick s) e (found_rank n t rest 
     either : (b : Bool) → (if b then Some s else find pick (t ∷ rest)) ≡ Some x → (find pick (t ∷ rest) ≡ Some x → rank_of t.role ≤ rank_of x.role) → rank_of s.role ≤ rank_of x.role
     either true e further = let is : s ≡ x = cc in let same : rank_of s.role ≡ rank_of x.role = ap (λ y. rank_of y.role) is in omega (arith, same)
     either false e further =
-        let low = next_ranks s.role t.role s t (follows s t (and_left (may_follow s t) _ h)) in
+        let low = next_rank s.role t.role s t (follows s t (and_left (may_follow s t) _ h)) in
         let high = further e in
         omega (arith, low, high)
 
@@ -251,12 +228,8 @@ same_fits b m k e h =
 
 same_passes : (b : ℕ) (r q : Reply) → same_reply r q ≡ true → PassesFit b q → PassesFit b r
 same_passes b (Passed m) (Passed k) e h = same_fits b m k e h
-same_passes b (Passed m) (Failed why) e h = cc
-same_passes b (Passed m) (Raised why) e h = cc
-same_passes b (Passed m) Crashed e h = cc
-same_passes b (Failed why) q e h = tt
-same_passes b (Raised why) q e h = tt
-same_passes b Crashed q e h = tt
+same_passes b (Passed m) _ e h = cc
+same_passes b _ q e h = tt
 
 same_all : (b : ℕ) (replies others : List Reply) → same_replies replies others ≡ true → AllFit b others → AllFit b replies
 same_all b [] others e h = tt

@@ -1,6 +1,7 @@
 -- The bodies of posts when their jobs begin, and what answers leave of them.
 use Rattle.std.proofs.Common.{◌≡◌, ℕ, List, [], ◌∷◌, Bool, true, false, refl, ap, sym, ◌∙◌, subst, Some, None, Option}
 use Rattle.std.specs.Prelude.{not, IsSome, is_some, ◌||◌, IfSome}
+use Rattle.std.proofs.lemmas.Bool.{false≢true}
 use Rattle.pipe_types.specs.declared.numbers.StageNo.{StageNo}
 use Rattle.pipe_types.specs.declared.numbers.Post.{Post}
 use Rattle.pipe_types.specs.declared.message.Batch.{Batch}
@@ -35,7 +36,7 @@ use Rattle.stage_bodies.specs.declared.job.Outcome.{Outcome as Came}
 use Rattle.stage_bodies.specs.declared.job.Outcome.TheVariants as came
 use Rattle.stage_callback.specs.Laws.{Law}
 use Rattle.pace_laws.specs.Pacing.{PaceSame}
-use Rattle.pace_laws.proofs.Fetching.{cut_of, same_pace}
+use Rattle.pace_laws.proofs.Fetching.{same_pace}
 use Rattle.pace_laws.proofs.Going.{accept_goes, end_goes, quiet_rests}
 use Rattle.body_laws.specs.Counts.{short_writes, calls_of, bad_of, resets_of}
 use Rattle.body_laws.specs.Lawful.{has_sink, AreLawfulAnswers}
@@ -123,61 +124,37 @@ fit_of topology before p test body h fit =
 pub fit_at : (topology : Topology) (before : History) (p : Post) (spec : StageSpec) (body : BodySeen) → spec_of topology p.stage ≡ Some spec → IsBodyFor topology before p.stage spec spec.role body → IsBodyAt topology before p body
 fit_at topology before p spec body e h = subst (λ o. There o (λ spec. IsBodyFor topology before p.stage spec spec.role body)) (sym e) h
 
+-- the role of which a test speaks
+role_is : (r : Role) → (is_producer_role r ≡ true → r ≡ Producer) × (is_processor_role r ≡ true → r ≡ Processor) × (is_supervisor_role r ≡ true → r ≡ Supervisor) × (is_batch_processor_role r ≡ true → r ≡ BatchProcessor)
+role_is Producer = (λ e. refl, λ e. absurd (false≢true e), λ e. absurd (false≢true e), λ e. absurd (false≢true e))
+role_is Processor = (λ e. absurd (false≢true e), λ e. refl, λ e. absurd (false≢true e), λ e. absurd (false≢true e))
+role_is Supervisor = (λ e. absurd (false≢true e), λ e. absurd (false≢true e), λ e. refl, λ e. absurd (false≢true e))
+role_is Batcher = (λ e. absurd (false≢true e), λ e. absurd (false≢true e), λ e. absurd (false≢true e), λ e. absurd (false≢true e))
+role_is BatchProcessor = (λ e. absurd (false≢true e), λ e. absurd (false≢true e), λ e. absurd (false≢true e), λ e. refl)
+
 pub source_for : (topology : Topology) (before : History) (s : StageNo) (spec : StageSpec) (r : Role) (body : BodySeen) → is_producer_role r ≡ true → IsBodyFor topology before s spec r body → IsSome body.source
-source_for topology before s spec Producer body e h = h
-source_for topology before s spec Processor body e h = let x : false ≡ true = e in cc
-source_for topology before s spec Supervisor body e h = let x : false ≡ true = e in cc
-source_for topology before s spec Batcher body e h = let x : false ≡ true = e in cc
-source_for topology before s spec BatchProcessor body e h = let x : false ≡ true = e in cc
+source_for topology before s spec r body e h = subst (λ x. IsBodyFor topology before s spec x body) ((role_is r).0 e) h
 
 pub for_source : (topology : Topology) (before : History) (s : StageNo) (spec : StageSpec) (r : Role) (body : BodySeen) → is_producer_role r ≡ true → IsSome body.source → IsBodyFor topology before s spec r body
-for_source topology before s spec Producer body e h = h
-for_source topology before s spec Processor body e h = let x : false ≡ true = e in cc
-for_source topology before s spec Supervisor body e h = let x : false ≡ true = e in cc
-for_source topology before s spec Batcher body e h = let x : false ≡ true = e in cc
-for_source topology before s spec BatchProcessor body e h = let x : false ≡ true = e in cc
+for_source topology before s spec r body e h = subst (λ x. IsBodyFor topology before s spec x body) (sym ((role_is r).0 e)) h
 
 pub chunk_for : (topology : Topology) (before : History) (s : StageNo) (spec : StageSpec) (r : Role) (body : BodySeen) → is_processor_role r ≡ true → IsBodyFor topology before s spec r body → There body.callback (IsArmed topology before s spec)
-chunk_for topology before s spec Processor body e h = h
-chunk_for topology before s spec Producer body e h = let x : false ≡ true = e in cc
-chunk_for topology before s spec Supervisor body e h = let x : false ≡ true = e in cc
-chunk_for topology before s spec Batcher body e h = let x : false ≡ true = e in cc
-chunk_for topology before s spec BatchProcessor body e h = let x : false ≡ true = e in cc
+chunk_for topology before s spec r body e h = subst (λ x. IsBodyFor topology before s spec x body) ((role_is r).1 e) h
 
 pub for_chunk : (topology : Topology) (before : History) (s : StageNo) (spec : StageSpec) (r : Role) (body : BodySeen) → is_processor_role r ≡ true → There body.callback (IsArmed topology before s spec) → IsBodyFor topology before s spec r body
-for_chunk topology before s spec Processor body e h = h
-for_chunk topology before s spec Producer body e h = let x : false ≡ true = e in cc
-for_chunk topology before s spec Supervisor body e h = let x : false ≡ true = e in cc
-for_chunk topology before s spec Batcher body e h = let x : false ≡ true = e in cc
-for_chunk topology before s spec BatchProcessor body e h = let x : false ≡ true = e in cc
+for_chunk topology before s spec r body e h = subst (λ x. IsBodyFor topology before s spec x body) (sym ((role_is r).1 e)) h
 
 pub child_for : (topology : Topology) (before : History) (s : StageNo) (spec : StageSpec) (r : Role) (body : BodySeen) → is_supervisor_role r ≡ true → IsBodyFor topology before s spec r body → There body.callback (IsArmed topology before s spec)
-child_for topology before s spec Supervisor body e h = h
-child_for topology before s spec Producer body e h = let x : false ≡ true = e in cc
-child_for topology before s spec Processor body e h = let x : false ≡ true = e in cc
-child_for topology before s spec Batcher body e h = let x : false ≡ true = e in cc
-child_for topology before s spec BatchProcessor body e h = let x : false ≡ true = e in cc
+child_for topology before s spec r body e h = subst (λ x. IsBodyFor topology before s spec x body) ((role_is r).2 e) h
 
 pub for_child : (topology : Topology) (before : History) (s : StageNo) (spec : StageSpec) (r : Role) (body : BodySeen) → is_supervisor_role r ≡ true → There body.callback (IsArmed topology before s spec) → IsBodyFor topology before s spec r body
-for_child topology before s spec Supervisor body e h = h
-for_child topology before s spec Producer body e h = let x : false ≡ true = e in cc
-for_child topology before s spec Processor body e h = let x : false ≡ true = e in cc
-for_child topology before s spec Batcher body e h = let x : false ≡ true = e in cc
-for_child topology before s spec BatchProcessor body e h = let x : false ≡ true = e in cc
+for_child topology before s spec r body e h = subst (λ x. IsBodyFor topology before s spec x body) (sym ((role_is r).2 e)) h
 
 pub batch_for : (topology : Topology) (before : History) (s : StageNo) (spec : StageSpec) (r : Role) (body : BodySeen) → is_batch_processor_role r ≡ true → IsBodyFor topology before s spec r body → There body.callback (IsArmed topology before s spec) × (is_some body.sink ≡ is_some spec.edge)
-batch_for topology before s spec BatchProcessor body e h = h
-batch_for topology before s spec Producer body e h = let x : false ≡ true = e in cc
-batch_for topology before s spec Processor body e h = let x : false ≡ true = e in cc
-batch_for topology before s spec Supervisor body e h = let x : false ≡ true = e in cc
-batch_for topology before s spec Batcher body e h = let x : false ≡ true = e in cc
+batch_for topology before s spec r body e h = subst (λ x. IsBodyFor topology before s spec x body) ((role_is r).3 e) h
 
 pub for_batch : (topology : Topology) (before : History) (s : StageNo) (spec : StageSpec) (r : Role) (body : BodySeen) → is_batch_processor_role r ≡ true → There body.callback (IsArmed topology before s spec) × (is_some body.sink ≡ is_some spec.edge) → IsBodyFor topology before s spec r body
-for_batch topology before s spec BatchProcessor body e h = h
-for_batch topology before s spec Producer body e h = let x : false ≡ true = e in cc
-for_batch topology before s spec Processor body e h = let x : false ≡ true = e in cc
-for_batch topology before s spec Supervisor body e h = let x : false ≡ true = e in cc
-for_batch topology before s spec Batcher body e h = let x : false ≡ true = e in cc
+for_batch topology before s spec r body e h = subst (λ x. IsBodyFor topology before s spec x body) (sym ((role_is r).3 e)) h
 
 pub source_there : (topology : Topology) (before : History) (p : Post) (body : BodySeen) → has_role topology p.stage is_producer_role ≡ true → IsBodyAt topology before p body → IsSome body.source
 source_there topology before p body h fit = let f = fit_of topology before p is_producer_role body h fit in source_for topology before p.stage f.spec f.spec.role body f.role f.holds

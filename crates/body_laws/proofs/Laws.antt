@@ -76,21 +76,19 @@ unrecorded_keeps topology before job o old new opened now after sound is brings 
 
 -- ---- it comes back with an answer that the journal has
 
+step_leaves : (p : Post) (o : Came) (s : StageNo) (q : Post) → (restarts (step_of p o) s ≡ false) × (puts_out (step_of p o) q ≡ false)
+step_leaves p (came.Records records) s q = (refl, refl)
+step_leaves p came.NotYet s q = (refl, refl)
+step_leaves p (came.Ended how) s q = (refl, refl)
+step_leaves p (came.Replies replies) s q = (refl, refl)
+step_leaves p (came.Wrote bytes end) s q = (refl, refl)
+step_leaves p (came.Reply reply) s q = (refl, refl)
+
 step_restarts : (p : Post) (o : Came) (s : StageNo) → restarts (step_of p o) s ≡ false
-step_restarts p (came.Records records) s = refl
-step_restarts p came.NotYet s = refl
-step_restarts p (came.Ended how) s = refl
-step_restarts p (came.Replies replies) s = refl
-step_restarts p (came.Wrote bytes end) s = refl
-step_restarts p (came.Reply reply) s = refl
+step_restarts p o s = (step_leaves p o s p).0
 
 pub step_puts_out : (p : Post) (o : Came) (q : Post) → puts_out (step_of p o) q ≡ false
-step_puts_out p (came.Records records) q = refl
-step_puts_out p came.NotYet q = refl
-step_puts_out p (came.Ended how) q = refl
-step_puts_out p (came.Replies replies) q = refl
-step_puts_out p (came.Wrote bytes end) q = refl
-step_puts_out p (came.Reply reply) q = refl
+step_puts_out p o q = (step_leaves p o p.stage q).1
 
 -- a child's answer names its slot; any other is of slot 0
 abbrev pub NamesSlot : Post → Came → Type 0

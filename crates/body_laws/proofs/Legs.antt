@@ -20,6 +20,7 @@ use Rattle.pipe_model.specs.Lives.{KillSet, kill_set, reason_in}
 use Rattle.pipe_model.specs.Batches.{Batch, BatchPlace, AtBatcher, Sent, Dropped, Leg, LegPlace, InInbox, AtWork, Answered, LegLost, is_settled, settled_as, lost_leg, failed_leg, outcome_place, place_by_batch, on_legs, leg_taken, leg_answered, leg_lost, new_legs, batch_sent, batch_on_legs, batch_killed, dropped_in}
 use Rattle.pipe_model.specs.Flow.{alone, batch, view_of, among, sends_by, subs_of, place_in_batch, change_place, new_batch, next_units, closing}
 use Rattle.pipe_model.specs.Acknowledgements.{is_acked_failed}
+use Rattle.pipe_laws.proofs.Carried.{on_legs_clear, sent_clear}
 use Rattle.pipe_laws.proofs.Tests.{and_left, and_right, both}
 use Rattle.body_laws.specs.Passes.{passes, all_pass}
 
@@ -82,30 +83,9 @@ lost_passes (Some why) i u (LegLost l) h = refl
 
 -- ---- batches
 
-on_legs_pass : (change : SubNo → LegPlace → LegPlace) → ((u : SubNo) (p : LegPlace) → leg_passes p ≡ true → leg_passes (change u p) ≡ true) → (p : BatchPlace) → place_passes p ≡ true → place_passes (batch_on_legs change p) ≡ true
-on_legs_pass change keeps (AtBatcher s) h = refl
-on_legs_pass change keeps (Sent legs) h = pass_on_legs change keeps legs h
-on_legs_pass change keeps (Dropped l) h = refl
-
 new_pass : (subs : List SubNo) → legs_pass (new_legs subs) ≡ true
 new_pass [] = refl
 new_pass (u ∷ subs) = new_pass subs
-
-sent_passes : (s : StageNo) (is_alone : Bool) (subs : List SubNo) (p : BatchPlace) → place_passes p ≡ true → place_passes (batch_sent s is_alone subs p) ≡ true
-sent_passes s is_alone [] (AtBatcher t) h = by_stage (is_alone && same_stage s t)
-  where
-    by_stage : (b : Bool) → place_passes (if b then Sent [] else AtBatcher t) ≡ true
-    by_stage true = refl
-    by_stage false = refl
-sent_passes s is_alone [] (Sent legs) h = h
-sent_passes s is_alone [] (Dropped l) h = refl
-sent_passes s is_alone (u ∷ subs) (AtBatcher t) h = by_stage (same_stage s t)
-  where
-    by_stage : (b : Bool) → place_passes (if b then Sent (new_legs (u ∷ subs)) else AtBatcher t) ≡ true
-    by_stage true = new_pass (u ∷ subs)
-    by_stage false = refl
-sent_passes s is_alone (u ∷ subs) (Sent legs) h = h
-sent_passes s is_alone (u ∷ subs) (Dropped l) h = refl
 
 killed_passes : (set : KillSet) (incarnation : StageNo → ℕ) (p : BatchPlace) → place_passes p ≡ true → place_passes (batch_killed set incarnation p) ≡ true
 killed_passes set incarnation (AtBatcher s) h = by_reason (reason_in set s)
@@ -131,15 +111,15 @@ batches_pass topology (Close s first trigger ∷ before) b h =
     either numbers true old = refl
     either numbers false old = old
 batches_pass topology (Dispatch s ∷ before) b h =
-    passes_mapped (batch_sent s (among (alone topology before s) b) (subs_of (sends_by topology before (view_of topology before) s) b)) (sent_passes s _ _) (batch topology before b) (batches_pass topology before b (pass_before before (Dispatch s) h))
+    passes_mapped (batch_sent s (among (alone topology before s) b) (subs_of (sends_by topology before (view_of topology before) s) b)) (sent_clear place_passes new_pass s _ _) (batch topology before b) (batches_pass topology before b (pass_before before (Dispatch s) h))
 batches_pass topology (Take s u k ∷ before) b h =
     either (among (next_units topology (view_of topology before) s u k) b) (batch topology before b) (batches_pass topology before b (pass_before before (Take s u k) h))
   where
     either : (t : Bool) (o : Option Batch) → batch_passes o ≡ true → batch_passes (if t then option_map (λ x. change_place x (batch_on_legs (leg_taken s) x.place)) o else o) ≡ true
-    either true o h = passes_mapped (batch_on_legs (leg_taken s)) (on_legs_pass (leg_taken s) (taken_passes s)) o h
+    either true o h = passes_mapped (batch_on_legs (leg_taken s)) (on_legs_clear place_passes (leg_taken s) (pass_on_legs (leg_taken s) (taken_passes s))) o h
     either false o h = h
 batches_pass topology (Wrote s bytes (Outcomes outcomes) ∷ before) b h =
-    passes_mapped (batch_on_legs (leg_answered s outcomes)) (on_legs_pass (leg_answered s outcomes) (answered_passes s outcomes (pass_here before (Wrote s bytes (Outcomes outcomes)) h))) (batch topology before b)
+    passes_mapped (batch_on_legs (leg_answered s outcomes)) (on_legs_clear place_passes (leg_answered s outcomes) (pass_on_legs (leg_answered s outcomes) (answered_passes s outcomes (pass_here before (Wrote s bytes (Outcomes outcomes)) h)))) (batch topology before b)
     (batches_pass topology before b (pass_before before (Wrote s bytes (Outcomes outcomes)) h))
 batches_pass topology (Kill s why ∷ before) b h =
     passes_mapped (batch_killed (kill_set topology before (Kill s why)) (incarnation before)) (killed_passes (kill_set topology before (Kill s why)) (incarnation before)) (batch topology before b)

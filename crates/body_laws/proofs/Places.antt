@@ -7,38 +7,27 @@ use Rattle.pipe_types.specs.declared.numbers.SubNo.{SubNo}
 use Rattle.pipe_types.specs.declared.topology.Topology.{Topology}
 use Rattle.pipe_types.specs.declared.message.Place.{Place}
 use Rattle.pipe_types.specs.declared.message.Outcome.TheVariants.{Successful}
-use Rattle.pipe_types.specs.declared.message.Place.TheVariants.{Waiting, Inbox, Running, Gathered, InBatch, Acked, Lost}
+use Rattle.pipe_types.specs.declared.message.Place.TheVariants.{Waiting, Inbox, Running, Gathered, InBatch, Acked}
 use Rattle.pipe_types.specs.declared.message.Reply.{Reply}
 use Rattle.pipe_types.specs.declared.message.Reply.TheVariants.{Pass, Failed as FailedReply, Raised, Crashed}
 use Rattle.pipe_types.specs.declared.message.Why.{Why}
 use Rattle.pipe_types.specs.declared.room.Sent.{Sent as SentUnit}
 use Rattle.pipe_types.specs.declared.step.Step.TheVariants.{Accept, Dispatch, Take, Done, Gather, Close, Wrote, Child, ChildEnd, Kill, Late, Halt}
 use Rattle.pipe_types.specs.declared.step.LateAnswer.TheVariants.{Records}
-use Rattle.pipe_types.specs.Numbers.{batch_no, same_stage}
+use Rattle.pipe_types.specs.Numbers.{same_stage}
 use Rattle.pipe_types.specs.Stages.{spec_of}
 use Rattle.pipe_model.specs.History.{History, incarnation}
 use Rattle.pipe_model.specs.Posts.{in_slot, crashes}
-use Rattle.pipe_model.specs.Content.{has_crash, is_among_next}
+use Rattle.pipe_model.specs.Content.{has_crash}
 use Rattle.pipe_model.specs.Lives.{KillSet, death, kill_set, reason_in}
 use Rattle.pipe_model.specs.Batches.{Batch}
-use Rattle.pipe_model.specs.Flow.{place, batch, among, subs_of, dispatched, waiting_after, taken, done, answered, reply_to, gathered, put_in_batch, by_batch, killed, lost_with, child_ended, child_place, runs_again, is_number, accepted_to, late_place}
+use Rattle.pipe_model.specs.Flow.{place, batch, among, subs_of, dispatched, waiting_after, done, answered, reply_to, by_batch, killed, lost_with, child_ended, child_place, runs_again, is_number, late_place}
 use Rattle.pipe_model.specs.Acknowledgements.{is_acked_failed}
 use Rattle.stage_callback.specs.Callbacks.{is_passed}
+use Rattle.pipe_laws.proofs.Carried.{mapped_clear, accepted_clear, taken_clear, done_clear, gathered_clear, joined_clear}
 use Rattle.pipe_laws.proofs.Tests.{and_left, and_right}
 use Rattle.body_laws.specs.Passes.{all_pass}
 use Rattle.body_laws.proofs.Legs.{pass_before, pass_here, batch_passes, batches_pass, batch_leaves}
-
-mapped_fine : (f : Place → Place) → ((p : Place) → is_acked_failed (Some p) ≡ false → is_acked_failed (Some (f p)) ≡ false) → (o : Option Place) → is_acked_failed o ≡ false → is_acked_failed (option_map f o) ≡ false
-mapped_fine f keeps None h = refl
-mapped_fine f keeps (Some p) h = keeps p h
-
-accepted_fine : (from count n : ℕ) (p : Place) (old : Option Place) → is_acked_failed (Some p) ≡ false → is_acked_failed old ≡ false → is_acked_failed (accepted_to from count p n old) ≡ false
-accepted_fine from count n p (Some q) new h = h
-accepted_fine from count n p None new h = either (is_among_next from count n)
-  where
-    either : (b : Bool) → is_acked_failed (if b then Some p else None) ≡ false
-    either true = new
-    either false = refl
 
 late_fine : (s : StageNo) (i : ℕ) (why : Option Why) → is_acked_failed (Some (late_place s i why)) ≡ false
 late_fine s i (Some why) = refl
@@ -52,29 +41,12 @@ dispatched_fine units over alone s n (Waiting t) h = by_stage (same_stage s t) (
     by_stage true [] false = refl
     by_stage true (u ∷ subs) is_over = refl
     by_stage false subs is_over = refl
-dispatched_fine units over alone s n (Inbox u) h = refl
-dispatched_fine units over alone s n (Running t) h = refl
-dispatched_fine units over alone s n (Gathered t) h = refl
 dispatched_fine units over alone s n (InBatch b) h = by_lone (among alone b.0)
   where
     by_lone : (a : Bool) → is_acked_failed (Some (if a then Acked Successful else InBatch b)) ≡ false
     by_lone true = refl
     by_lone false = refl
-dispatched_fine units over alone s n (Acked o) h = h
-dispatched_fine units over alone s n (Lost l) h = refl
-
-taken_fine : (chunk : List ℕ) (s : StageNo) (n : ℕ) (p : Place) → is_acked_failed (Some p) ≡ false → is_acked_failed (Some (taken chunk s n p)) ≡ false
-taken_fine chunk s n (Inbox u) h = either (same_stage s u.consumer && among chunk n)
-  where
-    either : (b : Bool) → is_acked_failed (Some (if b then Running s else Inbox u)) ≡ false
-    either true = refl
-    either false = refl
-taken_fine chunk s n (Waiting t) h = refl
-taken_fine chunk s n (Running t) h = refl
-taken_fine chunk s n (Gathered t) h = refl
-taken_fine chunk s n (InBatch b) h = refl
-taken_fine chunk s n (Acked o) h = h
-taken_fine chunk s n (Lost l) h = refl
+dispatched_fine units over alone s n p h = h
 
 -- no reply, or a pass
 abbrev passed_or_none : Option Reply → Bool
@@ -100,52 +72,11 @@ answered_fine true s None h = refl
 answered_fine false s None h = refl
 
 done_fine : (b : Bool) (chunk : List ℕ) (replies : List Reply) (s : StageNo) (n : ℕ) → list_all is_passed replies ≡ true → (p : Place) → is_acked_failed (Some p) ≡ false → is_acked_failed (Some (done b chunk replies s n p)) ≡ false
-done_fine b chunk replies s n good (Running t) h = either (same_stage s t)
-  where
-    either : (a : Bool) → is_acked_failed (Some (if a then answered b s (reply_to chunk replies n) else Running t)) ≡ false
-    either true = answered_fine b s (reply_to chunk replies n) (reply_passes chunk replies n good)
-    either false = refl
-done_fine b chunk replies s n good (Waiting t) h = refl
-done_fine b chunk replies s n good (Inbox u) h = refl
-done_fine b chunk replies s n good (Gathered t) h = refl
-done_fine b chunk replies s n good (InBatch m) h = refl
-done_fine b chunk replies s n good (Acked o) h = h
-done_fine b chunk replies s n good (Lost l) h = refl
-
-gathered_fine : (s : StageNo) (m n : ℕ) (p : Place) → is_acked_failed (Some p) ≡ false → is_acked_failed (Some (gathered s m n p)) ≡ false
-gathered_fine s m n (Inbox u) h = either (same_stage s u.consumer && m == n)
-  where
-    either : (b : Bool) → is_acked_failed (Some (if b then Gathered s else Inbox u)) ≡ false
-    either true = refl
-    either false = refl
-gathered_fine s m n (Waiting t) h = refl
-gathered_fine s m n (Running t) h = refl
-gathered_fine s m n (Gathered t) h = refl
-gathered_fine s m n (InBatch b) h = refl
-gathered_fine s m n (Acked o) h = h
-gathered_fine s m n (Lost l) h = refl
-
-joined_fine : (numbers : List ℕ) (s : StageNo) (b n : ℕ) (p : Place) → is_acked_failed (Some p) ≡ false → is_acked_failed (Some (put_in_batch numbers s b n p)) ≡ false
-joined_fine numbers s b n (Gathered t) h = either (same_stage s t && among numbers n)
-  where
-    either : (a : Bool) → is_acked_failed (Some (if a then InBatch (batch_no b) else Gathered t)) ≡ false
-    either true = refl
-    either false = refl
-joined_fine numbers s b n (Waiting t) h = refl
-joined_fine numbers s b n (Inbox u) h = refl
-joined_fine numbers s b n (Running t) h = refl
-joined_fine numbers s b n (InBatch m) h = refl
-joined_fine numbers s b n (Acked o) h = h
-joined_fine numbers s b n (Lost l) h = refl
+done_fine b chunk replies s n good = done_clear is_acked_failed b chunk replies s n (answered_fine b s (reply_to chunk replies n) (reply_passes chunk replies n good))
 
 by_batch_fine : (after : ℕ → Option Batch) (n : ℕ) → ((b : ℕ) → batch_passes (after b) ≡ true) → (p : Place) → is_acked_failed (Some p) ≡ false → is_acked_failed (Some (by_batch after n p)) ≡ false
 by_batch_fine after n good (InBatch b) h = batch_leaves b.0 (after b.0) n (good b.0)
-by_batch_fine after n good (Waiting t) h = refl
-by_batch_fine after n good (Inbox u) h = refl
-by_batch_fine after n good (Running t) h = refl
-by_batch_fine after n good (Gathered t) h = refl
-by_batch_fine after n good (Acked o) h = h
-by_batch_fine after n good (Lost l) h = refl
+by_batch_fine after n good p h = h
 
 child_fine : (again : Bool) (s : StageNo) (i : ℕ) (reply : Reply) → is_passed reply ≡ true → is_acked_failed (Some (child_place again s i reply)) ≡ false
 child_fine again s i (Pass m) h = refl
@@ -159,12 +90,7 @@ ended_fine again ended s i reply n good (Running t) h = either (same_stage s t &
     either : (a : Bool) → is_acked_failed (Some (if a then child_place again s i reply else Running t)) ≡ false
     either true = child_fine again s i reply good
     either false = refl
-ended_fine again ended s i reply n good (Waiting t) h = refl
-ended_fine again ended s i reply n good (Inbox u) h = refl
-ended_fine again ended s i reply n good (Gathered t) h = refl
-ended_fine again ended s i reply n good (InBatch b) h = refl
-ended_fine again ended s i reply n good (Acked o) h = h
-ended_fine again ended s i reply n good (Lost l) h = refl
+ended_fine again ended s i reply n good p h = h
 
 lost_fine : (i : ℕ) (s : StageNo) (why : Option Why) (p : Place) → is_acked_failed (Some p) ≡ false → is_acked_failed (Some (lost_with i s why p)) ≡ false
 lost_fine i s None p h = h
@@ -175,40 +101,38 @@ killed_fine set incarnation (Waiting s) h = lost_fine (incarnation s) s (reason_
 killed_fine set incarnation (Inbox u) h = lost_fine (incarnation u.consumer) u.consumer (reason_in set u.consumer) (Inbox u) refl
 killed_fine set incarnation (Running s) h = lost_fine (incarnation s) s (reason_in set s) (Running s) refl
 killed_fine set incarnation (Gathered s) h = lost_fine (incarnation s) s (reason_in set s) (Gathered s) refl
-killed_fine set incarnation (InBatch b) h = refl
-killed_fine set incarnation (Acked o) h = h
-killed_fine set incarnation (Lost l) h = refl
+killed_fine set incarnation p h = h
 
 -- where all pass, no message is failed
 pub none_failed : (topology : Topology) (before : History) (n : ℕ) → all_pass before ≡ true → is_acked_failed (place topology before n) ≡ false
 none_failed topology [] n h = refl
-none_failed topology (Accept s records ∷ before) n h = accepted_fine _ _ n (Waiting s) (place topology before n) refl (none_failed topology before n (pass_before before (Accept s records) h))
+none_failed topology (Accept s records ∷ before) n h = accepted_clear is_acked_failed _ _ n (Waiting s) (place topology before n) refl (none_failed topology before n (pass_before before (Accept s records) h))
 none_failed topology (Late s slot i (Records records) ∷ before) n h =
-    accepted_fine _ _ n (late_place s i (death topology before s)) (place topology before n) (late_fine s i (death topology before s)) (none_failed topology before n (pass_before before (Late s slot i (Records records)) h))
-none_failed topology (Dispatch s ∷ before) n h = mapped_fine _ (dispatched_fine _ _ _ s n) (place topology before n) (none_failed topology before n (pass_before before (Dispatch s) h))
-none_failed topology (Take s u k ∷ before) n h = mapped_fine _ (taken_fine _ s n) (place topology before n) (none_failed topology before n (pass_before before (Take s u k) h))
+    accepted_clear is_acked_failed _ _ n (late_place s i (death topology before s)) (place topology before n) (late_fine s i (death topology before s)) (none_failed topology before n (pass_before before (Late s slot i (Records records)) h))
+none_failed topology (Dispatch s ∷ before) n h = mapped_clear is_acked_failed _ (dispatched_fine _ _ _ s n) (place topology before n) (none_failed topology before n (pass_before before (Dispatch s) h))
+none_failed topology (Take s u k ∷ before) n h = mapped_clear is_acked_failed _ (taken_clear is_acked_failed _ s n refl) (place topology before n) (none_failed topology before n (pass_before before (Take s u k) h))
 none_failed topology (Done s replies ∷ before) n h =
     either (has_crash replies) _ (done_fine _ _ replies s n (pass_here before (Done s replies) h)) (none_failed topology before n (pass_before before (Done s replies) h))
   where
     either : (b : Bool) (f : Place → Place) → ((p : Place) → is_acked_failed (Some p) ≡ false → is_acked_failed (Some (f p)) ≡ false) → is_acked_failed (place topology before n) ≡ false
         → is_acked_failed (if b then place topology before n else option_map f (place topology before n)) ≡ false
     either true f keeps old = old
-    either false f keeps old = mapped_fine f keeps (place topology before n) old
-none_failed topology (Gather s m ∷ before) n h = mapped_fine _ (gathered_fine s m.0 n) (place topology before n) (none_failed topology before n (pass_before before (Gather s m) h))
-none_failed topology (Close s first trigger ∷ before) n h = mapped_fine _ (joined_fine _ s _ n) (place topology before n) (none_failed topology before n (pass_before before (Close s first trigger) h))
+    either false f keeps old = mapped_clear is_acked_failed f keeps (place topology before n) old
+none_failed topology (Gather s m ∷ before) n h = mapped_clear is_acked_failed _ (gathered_clear is_acked_failed s m.0 n refl) (place topology before n) (none_failed topology before n (pass_before before (Gather s m) h))
+none_failed topology (Close s first trigger ∷ before) n h = mapped_clear is_acked_failed _ (joined_clear is_acked_failed _ s _ n refl) (place topology before n) (none_failed topology before n (pass_before before (Close s first trigger) h))
 none_failed topology (Wrote s bytes end ∷ before) n h =
-    mapped_fine (by_batch (batch topology (Wrote s bytes end ∷ before)) n) (by_batch_fine (batch topology (Wrote s bytes end ∷ before)) n (λ b. batches_pass topology (Wrote s bytes end ∷ before) b h)) (place topology before n)
+    mapped_clear is_acked_failed (by_batch (batch topology (Wrote s bytes end ∷ before)) n) (by_batch_fine (batch topology (Wrote s bytes end ∷ before)) n (λ b. batches_pass topology (Wrote s bytes end ∷ before) b h)) (place topology before n)
     (none_failed topology before n (pass_before before (Wrote s bytes end) h))
-none_failed topology (Child s m slot ∷ before) n h = mapped_fine _ (taken_fine (m.0 ∷ []) s n) (place topology before n) (none_failed topology before n (pass_before before (Child s m slot) h))
+none_failed topology (Child s m slot ∷ before) n h = mapped_clear is_acked_failed _ (taken_clear is_acked_failed (m.0 ∷ []) s n refl) (place topology before n) (none_failed topology before n (pass_before before (Child s m slot) h))
 none_failed topology (ChildEnd s slot reply ∷ before) n h =
-    mapped_fine _ (ended_fine (runs_again (spec_of topology s) (crashes before n)) (in_slot before s slot) s _ reply n (pass_here before (ChildEnd s slot reply) h)) (place topology before n)
+    mapped_clear is_acked_failed _ (ended_fine (runs_again (spec_of topology s) (crashes before n)) (in_slot before s slot) s _ reply n (pass_here before (ChildEnd s slot reply) h)) (place topology before n)
     (none_failed topology before n (pass_before before (ChildEnd s slot reply) h))
 none_failed topology (Kill s why ∷ before) n h =
-    mapped_fine (λ p. by_batch (batch topology (Kill s why ∷ before)) n (killed (kill_set topology before (Kill s why)) (incarnation before) p))
+    mapped_clear is_acked_failed (λ p. by_batch (batch topology (Kill s why ∷ before)) n (killed (kill_set topology before (Kill s why)) (incarnation before) p))
     (λ p fine. by_batch_fine (batch topology (Kill s why ∷ before)) n (λ b. batches_pass topology (Kill s why ∷ before) b h) (killed (kill_set topology before (Kill s why)) (incarnation before) p) (killed_fine (kill_set topology before (Kill s why)) (incarnation before) p fine))
     (place topology before n) (none_failed topology before n (pass_before before (Kill s why) h))
 none_failed topology (Halt ∷ before) n h =
-    mapped_fine (λ p. by_batch (batch topology (Halt ∷ before)) n (killed (kill_set topology before Halt) (incarnation before) p))
+    mapped_clear is_acked_failed (λ p. by_batch (batch topology (Halt ∷ before)) n (killed (kill_set topology before Halt) (incarnation before) p))
     (λ p fine. by_batch_fine (batch topology (Halt ∷ before)) n (λ b. batches_pass topology (Halt ∷ before) b h) (killed (kill_set topology before Halt) (incarnation before) p) (killed_fine (kill_set topology before Halt) (incarnation before) p fine))
     (place topology before n) (none_failed topology before n (pass_before before Halt h))
 none_failed topology (step ∷ before) n h = none_failed topology before n (pass_before before step h)

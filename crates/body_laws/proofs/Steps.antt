@@ -10,7 +10,6 @@ use Rattle.pipe_types.specs.declared.step.LateAnswer.TheVariants as late
 use Rattle.pipe_types.specs.declared.step.Step.{Step}
 use Rattle.pipe_types.specs.declared.step.Step.TheVariants.{Fetch, Take, Child, Accept, Quiet, SourceEnd, Done, Wrote, ChildEnd, Late, Restart}
 use Rattle.pipe_types.specs.declared.topology.Role.{Role}
-use Rattle.pipe_types.specs.declared.topology.Role.TheVariants.{Producer, Processor, Supervisor, Batcher, BatchProcessor}
 use Rattle.pipe_types.specs.declared.topology.Topology.{Topology}
 use Rattle.pipe_types.specs.Numbers.{stage, post, same_stage, same_post}
 use Rattle.pipe_types.specs.Sound.{IsSound}
@@ -23,6 +22,7 @@ use Rattle.pipe_model.specs.Legal.{is_legal, allows, late_fits, has_ended, same_
 use Rattle.pipe_laws.proofs.Tests.{clash, and_left, and_right, both, same_stage-true, same_stage-self, same_stage-flip}
 use Rattle.pipe_laws.proofs.Allowed.{legal_before, legal_step, unowed, take_facts, child_facts, done_facts, wrote_facts, late_facts}
 use Rattle.pipe_laws.proofs.Busy.{was_live, two_roles, producer_supervises}
+use Rattle.pipe_laws.proofs.Roles.{supervisor_writes}
 use Rattle.pipe_laws.proofs.Idle.{processor_supervisor}
 use Rattle.pipe_laws.specs.Read.{quiets}
 use Rattle.stage_callback.specs.Laws.{Law}
@@ -179,11 +179,7 @@ stays_untold topology before step p legal e a = let h = legal_step topology befo
 -- ---- a step that answers another post tells nothing of this one
 
 writer_child : (role : Role) → is_batch_processor_role role ≡ true → is_supervisor_role role ≡ true → ⊥
-writer_child Producer h k = let x : false ≡ true = k in cc
-writer_child Processor h k = let x : false ≡ true = k in cc
-writer_child Supervisor h k = let x : false ≡ true = h in cc
-writer_child Batcher h k = let x : false ≡ true = k in cc
-writer_child BatchProcessor h k = let x : false ≡ true = k in cc
+writer_child role h k = supervisor_writes role k h
 
 pub no_supervisor : (topology : Topology) (s : StageNo) (one : Role → Bool) → ((role : Role) → one role ≡ true → is_supervisor_role role ≡ true → ⊥) → has_role topology s one ≡ true → has_role topology s is_supervisor_role ≡ false
 no_supervisor topology s one apart h = either (has_role topology s is_supervisor_role) refl

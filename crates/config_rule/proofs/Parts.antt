@@ -4,6 +4,7 @@ use Rattle.std.specs.Prelude.{◌==◌, ◌&&◌, not, position, option_map, if�
 use Rattle.std.specs.List.{position_from, list_all}
 use Rattle.std.proofs.lemmas.Iterator.Adapters.{position_from-zero}
 use Rattle.std.proofs.lemmas.Bool.Decides.{nat_tests}
+use Rattle.std.proofs.Math.Bool.{and-false, and-true}
 use Rattle.pipe_types.specs.Sound.{is_between}
 use Rattle.config_rule.specs.SourceText.{parts, before_first, at_comma, is_name, are_names}
 
@@ -88,18 +89,10 @@ below n low = grind (arith, nat_tests)
 above : (n : ℕ) → 64 < n → is_between 2 64 n ≡ false
 above n high = grind (arith, nat_tests)
 
-and_true : (b : Bool) → (b && true) ≡ b
-and_true true = refl
-and_true false = refl
-
-and_false : (b : Bool) → (b && false) ≡ false
-and_false true = refl
-and_false false = refl
-
 -- a last name behind one or more
 pub last_name : (all : List (List ℕ)) (before : ℕ) (last : List ℕ) → 1 ≤ before → before < 64 → length all ≡ before + 1 → list_all is_name all ≡ list_all is_name (last ∷ []) → are_names all ≡ not (length last == 0)
 last_name all before last low high count named =
-    ap (λ (b : Bool). b && list_all is_name all) (within (length all) (omega (arith, count)) (omega (arith, count))) ∙ (named ∙ and_true (is_name last))
+    ap (λ (b : Bool). b && list_all is_name all) (within (length all) (omega (arith, count)) (omega (arith, count))) ∙ (named ∙ and-true (is_name last))
 
 pub too_few : (all : List (List ℕ)) → length all < 2 → are_names all ≡ false
 too_few all count = ap (λ (b : Bool). b && list_all is_name all) (below (length all) count)
@@ -109,4 +102,4 @@ too_many all count = ap (λ (b : Bool). b && list_all is_name all) (above (lengt
 
 -- an empty name
 pub unnamed : (all : List (List ℕ)) → list_all is_name all ≡ false → are_names all ≡ false
-unnamed all e = ap (λ (b : Bool). is_between 2 64 (length all) && b) e ∙ and_false (is_between 2 64 (length all))
+unnamed all e = ap (λ (b : Bool). is_between 2 64 (length all) && b) e ∙ and-false (is_between 2 64 (length all))

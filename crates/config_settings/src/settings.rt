@@ -1,39 +1,12 @@
 //! The values of a topology file.
 
-ghost use Rattle.std.specs.Prelude.{◌≡◌};
-
 use pipe_types::bytes::Text;
+use pipe_types::list::ListOf;
 use pipe_types::reason::Reason;
 use pipe_types::topology::{CancelMode, ChildMode, Dispatch, Keep, Kind, Rate};
-use std::marker::Model;
 
 /// Texts in the order of the file.
-#[derive(Drop)]
-pub struct TextList {
-    items: Vec<Text>,
-}
-
-impl Model for TextList {
-    ghost use Rattle.std.specs.Prelude.{List, ℕ};
-
-    ghost Value = { List (List ℕ) };
-
-    ghost view = { λ l. l.items.items };
-}
-
-impl TextList {
-    pub fn from_vec(items: Vec<Text>) -> Self
-        ensures { result ≡ items.items }
-    {
-        TextList { items }
-    }
-
-    pub fn as_slice(&self) -> &[Text]
-        ensures { result.now ≡ self.now }
-    {
-        self.items.as_slice()
-    }
-}
+pub type TextList = ListOf<Text>;
 
 /// How a stage asks, and whether it is killed with a stage that it takes from.
 #[derive(Clone, Copy)]
@@ -101,62 +74,10 @@ pub struct BatcherSettings {
 }
 
 /// Producers in the order of the file.
-#[derive(Drop)]
-pub struct ProducerList {
-    items: Vec<ProducerSettings>,
-}
-
-impl Model for ProducerList {
-    ghost use Rattle.std.specs.Prelude.{List};
-    ghost use Rattle.config_settings.specs.declared.settings.ProducerSettings.{ProducerSettings};
-
-    ghost Value = { List ProducerSettings };
-
-    ghost view = { λ l. l.items.items };
-}
-
-impl ProducerList {
-    pub fn from_vec(items: Vec<ProducerSettings>) -> Self
-        ensures { result ≡ items.items }
-    {
-        ProducerList { items }
-    }
-
-    pub fn as_slice(&self) -> &[ProducerSettings]
-        ensures { result.now ≡ self.now }
-    {
-        self.items.as_slice()
-    }
-}
+pub type ProducerList = ListOf<ProducerSettings>;
 
 /// Batchers in the order of the file.
-#[derive(Drop)]
-pub struct BatcherList {
-    items: Vec<BatcherSettings>,
-}
-
-impl Model for BatcherList {
-    ghost use Rattle.std.specs.Prelude.{List};
-    ghost use Rattle.config_settings.specs.declared.settings.BatcherSettings.{BatcherSettings};
-
-    ghost Value = { List BatcherSettings };
-
-    ghost view = { λ l. l.items.items };
-}
-
-impl BatcherList {
-    pub fn from_vec(items: Vec<BatcherSettings>) -> Self
-        ensures { result ≡ items.items }
-    {
-        BatcherList { items }
-    }
-
-    pub fn as_slice(&self) -> &[BatcherSettings]
-        ensures { result.now ≡ self.now }
-    {
-        self.items.as_slice()
-    }
-}
+pub type BatcherList = ListOf<BatcherSettings>;
 
 /// The values of a topology file. A control source is named where there is one, and so is a rate.
 #[derive(Drop)]

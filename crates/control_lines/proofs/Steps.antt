@@ -56,17 +56,17 @@ one_job step before h = by (begins step) h
     by true e = omega arith
     by false e = cc
 
+job_is_neither : (step : Step) → begins step ≡ true → (is_control step ≡ false) × (ends_source (stage 0) step ≡ false)
+job_is_neither (Fetch s n) h = (refl, refl)
+job_is_neither (Take s u k) h = (refl, refl)
+job_is_neither (Child s m slot) h = (refl, refl)
+job_is_neither _ h = (cc, cc)
+
 pub job_is_no_control : (step : Step) → begins step ≡ true → is_control step ≡ false
-job_is_no_control (Fetch s n) h = refl
-job_is_no_control (Take s u k) h = refl
-job_is_no_control (Child s m slot) h = refl
-job_is_no_control _ h = cc
+job_is_no_control step h = (job_is_neither step h).0
 
 pub job_is_no_end : (step : Step) → begins step ≡ true → ends_source (stage 0) step ≡ false
-job_is_no_end (Fetch s n) h = refl
-job_is_no_end (Take s u k) h = refl
-job_is_no_end (Child s m slot) h = refl
-job_is_no_end _ h = cc
+job_is_no_end step h = (job_is_neither step h).1
 
 pub control_is_no_job : (step : Step) → is_control step ≡ true → begins step ≡ false
 control_is_no_job (Fetch s n) h = cc

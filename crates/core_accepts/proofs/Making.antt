@@ -22,7 +22,7 @@ use Rattle.pipe_model.specs.History.{History, accepted}
 use Rattle.pipe_model.specs.Legal.{allows, fetches_out, has_role, is_producer_role, is_batch_processor_role, is_current}
 use Rattle.pipe_model.specs.Lives.{is_live}
 use Rattle.pipe_model.specs.Posts.{is_out}
-use Rattle.pipe_journal.specs.Recorded.{Recorded}
+use Rattle.pipe_journal.specs.Recorded.{AckLog, Recorded}
 use Rattle.pipe_laws.proofs.Allowed.{unowed}
 use Rattle.pipe_laws.proofs.Tests.{and_left, and_right, both, clash, same_stage-self}
 use Rattle.queue_laws.proofs.Sounds.{sound_fields}
@@ -86,9 +86,9 @@ accept_rows core s records x allowed =
 
 -- where the queue and the journal have more room, the core stands as it did
 pub queue_stands : (core : Core) (s : StageNo) (old q : VecDeque (ℕ × ℕ) Global) (j : Recorded) → Stands core → s.0 < length core.waiting.items → slice_get core.waiting.items s.0 ≡ Some old
-    → q.items ≡ old.items → spare_in (Some old) ≤ spare_in (Some q) → j.steps ≡ core.journal.steps → core.journal.spare ≤ j.spare
+    → q.items ≡ old.items → spare_in (Some old) ≤ spare_in (Some q) → j.steps ≡ core.journal.steps → core.journal.spare ≤ j.spare → j.acked ≡ core.journal.acked
     → Stands (record core { journal = j; waiting = with_item core.waiting s.0 q })
-queue_stands core s old q j x within was same more steps spare =
+queue_stands core s old q j x within was same more steps spare acked =
     roomy core core.places core.settled core.producers core.contents (with_item core.waiting s.0 q) j x
     (record {
       places = refl;
@@ -103,7 +103,7 @@ queue_stands core s old q j x within was same more steps spare =
       contents_room = omega arith;
       queues_room = more_queue core.waiting.items s old q within was more;
     })
-    steps spare
+    steps spare (ap (λ (a : AckLog). a.rows) acked) (let room = ap (λ (a : AckLog). a.room) acked in omega (arith, room))
 
 -- a producer has no batchers
 no_batchers_of : (topology : Topology) (s : StageNo) (spec : StageSpec) → IsSound topology → spec_of topology s ≡ Some spec → spec.role ≡ Producer → has_batchers_in (spec_of topology s) ≡ false

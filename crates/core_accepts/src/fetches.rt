@@ -41,6 +41,7 @@ pub fn fetch(core: &mut Core, stage: StageNo) -> Result<u32, AllocError>
 fn make_room(core: &mut Core, n: u32) -> Result<(), AllocError>
     requires stands { Stands core.old }
     ensures rows { OnOk result (HaveRows (booked core.old.topology core.old.journal.steps + n) core.new.places core.new.settled core.new.producers core.new.contents) }
+    ensures log { OnOk result (booked core.old.topology core.old.journal.steps + n ≤ core.new.journal.acked.room) }
     ensures steps { OnOk result (1089 ≤ core.new.journal.spare) }
     ensures unchanged { core.new.journal.steps ≡ core.old.journal.steps }
     ensures topology { core.new.topology ≡ core.old.topology }
@@ -51,6 +52,8 @@ fn make_room(core: &mut Core, n: u32) -> Result<(), AllocError>
     core.settled.reserve(rows)?;
     core.producers.reserve(rows)?;
     core.contents.reserve(rows)?;
+    let all = core.totals.accepted as usize + rows;
+    core.journal.reserve_acked(all)?;
     core.journal.reserve(MOST_DUE + 1)
 }
 
@@ -59,6 +62,7 @@ fn put_fetch(core: &mut Core, stage: StageNo, n: u32)
     requires stands { Stands core.old }
     requires legal { IsTrue (allows core.old.topology core.old.journal.steps (Step.Fetch stage n)) }
     requires rows { HaveRows (booked core.old.topology core.old.journal.steps + n) core.old.places core.old.settled core.old.producers core.old.contents }
+    requires log { booked core.old.topology core.old.journal.steps + n ≤ core.old.journal.acked.room }
     requires steps { 1089 ≤ core.old.journal.spare }
     ensures appended { core.new.journal.steps ≡ Step.Fetch stage n ∷ core.old.journal.steps }
     ensures topology { core.new.topology ≡ core.old.topology }

@@ -1,5 +1,5 @@
 -- Which trigger holds of the open batch that begins with a message.
-use Rattle.std.proofs.Common.{◌≡◌, ℕ, ◌≤◌, List, [], ◌∷◌, length, Bool, true, false, refl, ap, sym, ◌∙◌, Option, Some, None, All, arith, subst, get_or}
+use Rattle.std.proofs.Common.{◌≡◌, ℕ, ◌≤◌, List, [], ◌∷◌, length, Bool, true, false, refl, ap, sym, ◌∙◌, Option, Some, None, All, arith, get_or}
 use Rattle.std.specs.Prelude.{◌&&◌, ◌==◌, slice_get, is_some}
 use Rattle.std.proofs.lemmas.Bool.{eqb-true}
 use Rattle.std.proofs.lemmas.Option.{slice_get_read}
@@ -12,22 +12,21 @@ use Rattle.pipe_types.specs.Sound.{IsSound}
 use Rattle.pipe_types.specs.Stages.{spec_of}
 use Rattle.pipe_model.specs.History.{History}
 use Rattle.pipe_model.specs.Content.{content, key_in}
-use Rattle.pipe_model.specs.Flow.{view_of, closing, first_in, is_empty}
+use Rattle.pipe_model.specs.Flow.{view_of, closing, first_in}
 use Rattle.pipe_model.specs.Legal.{is_batcher_role, has_role, trigger_of, same_trigger, is_dry}
 use Rattle.pipe_model.specs.Standing.{gathered_in, of_key}
 use Rattle.pipe_laws.proofs.Tests.{clash}
-use Rattle.pipe_laws.proofs.Lists.{Each}
 use Rattle.queue_laws.proofs.Laws.{open_law}
 use Rattle.stage_laws.proofs.Numbering.{numbered_topology}
 use Rattle.batcher.specs.Batches.{Batches, IsClosable, first_of, trigger_of as held_trigger}
 use Rattle.batcher.specs.declared.Closable.{Closable}
 use Rattle.core_tables.specs.declared.rows.Totals.{Totals}
-use Rattle.core_laws.specs.Columns.{open_of, open_batches, keys_of}
+use Rattle.core_laws.specs.Columns.{open_of, keys_of}
 use Rattle.core_laws.proofs.Past.{known_within}
 use Rattle.core_state.specs.declared.state.Core.{Core}
 use Rattle.core_state.specs.Stands.{Stands}
-use Rattle.core_batches.proofs.Removing.{open_at, of_some_key, each_of_all, each_mapped, first_is, key_of_first}
-use Rattle.core_batches.proofs.Closing.{IsHeld, held_by, trigger_is}
+use Rattle.core_batches.proofs.Removing.{open_at, first_is, key_of_first}
+use Rattle.core_batches.proofs.Closing.{IsHeld, held_by, trigger_is, untriggered}
 use Rattle.core_rows.proofs.Fetched.{self}
 
 -- a batcher is a stage of the topology
@@ -71,10 +70,6 @@ closes_some core s first held dry found trigger stands h dries least is same =
     let starts : (first.0 == first_in (closing before (view_of t before) s first.0)) ≡ true = ap (λ n. first.0 == n) (ap first_in closes ∙ begins) ∙ self first.0 in
     sym (ap (λ b. b && same_trigger (trigger_of t before s (closing before (view_of t before) s first.0)) trigger) starts ∙ ap (λ x. same_trigger x trigger) rule)
 
-some_of : (xs : List ℕ) (n : ℕ) → 1 ≤ n → first_in xs ≡ n → is_empty xs ≡ false
-some_of [] n low e = absurd (omega (arith, low, e))
-some_of (x ∷ xs) n low e = refl
-
 -- where none that begins with the message has a trigger, none holds of it
 pub closes_none : (core : Core) (s : StageNo) (first : MsgNo) (held : Batches) (dry : Bool) (trigger : Trigger) → Stands core → IsHeld core s held
     → dry ≡ is_dry core.topology core.journal.steps s → 1 ≤ first.0 → All (λ batch. first_of batch ≡ first.0 → held_trigger held core.totals.now dry batch ≡ None) held.batches
@@ -104,14 +99,7 @@ closes_none core s first held dry trigger stands h dries least all = by (first.0
     by true e =
         let begins : first.0 ≡ first_in (closing before (view_of t before) s first.0) = eqb-true first.0 (first_in (closing before (view_of t before) s first.0)) e in
         let firsts : first_in (of_key before key ns) ≡ first.0 = sym (begins ∙ ap first_in closes) in
-        let each : Each (λ k. first_of (open_of before ns k) ≡ first.0 → held_trigger held core.totals.now dry (open_of before ns k) ≡ None) (keys_of before ns) =
-        each_mapped (λ batch. first_of batch ≡ first.0 → held_trigger held core.totals.now dry batch ≡ None) (open_of before ns) (keys_of before ns)
-        (each_of_all (λ batch. first_of batch ≡ first.0 → held_trigger held core.totals.now dry batch ≡ None) (open_batches before ns)
-        (subst (λ bs. All (λ batch. first_of batch ≡ first.0 → held_trigger held core.totals.now dry batch ≡ None) bs) h.opens all)) in
-        let none : held_trigger held core.totals.now dry (open_of before ns key) ≡ None =
-        of_some_key before (λ k. first_of (open_of before ns k) ≡ first.0 → held_trigger held core.totals.now dry (open_of before ns k) ≡ None) key ns each
-        (some_of (of_key before key ns) first.0 least firsts)
-        (first_is (of_key before key ns) ∙ firsts) in
+        let none = untriggered core s held dry key first.0 h all least firsts in
         let rule : trigger_of t before s (closing before (view_of t before) s first.0) ≡ None =
         ap (trigger_of t before s) closes
         ∙ (sym (trigger_is t before s held key core.totals.now dry h.size h.timeout (ap (λ (y : Totals). y.now) stands.holds.fields.totals) dries) ∙ none) in

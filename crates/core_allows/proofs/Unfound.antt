@@ -25,13 +25,9 @@ other_count topology before s n other =
     sym (ap (λ b. is_live topology before s && (has_role topology s is_producer_role && (not (has_ended before s) && (not (is_out before (post s 0)) && (not (rests before s) && (not (happened is_drain before) && (nat_lt (accepted_bytes before) topology.byte_limit && (nat_le 1 n && b)))))))) other
     ∙ none (is_live topology before s) (has_role topology s is_producer_role) (not (has_ended before s)) (not (is_out before (post s 0))) (not (rests before s)) (not (happened is_drain before)) (nat_lt (accepted_bytes before) topology.byte_limit) (nat_le 1 n))
   where
+    off : (a : Bool) {b : Bool} → b ≡ false → (a && b) ≡ false
+    off true e = e
+    off false e = refl
+
     none : (a b c d e f g h : Bool) → (a && (b && (c && (d && (e && (f && (g && (h && false)))))))) ≡ false
-    none false b c d e f g h = refl
-    none true false c d e f g h = refl
-    none true true false d e f g h = refl
-    none true true true false e f g h = refl
-    none true true true true false f g h = refl
-    none true true true true true false g h = refl
-    none true true true true true true false h = refl
-    none true true true true true true true false = refl
-    none true true true true true true true true = refl
+    none a b c d e f g h = off a (off b (off c (off d (off e (off f (off g (off h refl)))))))

@@ -58,7 +58,7 @@ use Rattle.core_laws.proofs.Past.{known_within, live_known}
 use Rattle.core_laws.proofs.LegsOn.{none_sent, waiting_closed}
 use Rattle.core_state.specs.declared.state.Core.{Core}
 use Rattle.core_state.specs.Room.{Roomy}
-use Rattle.core_state.specs.Stands.{Fields, Stands, opens_in, opens_at, closed_seen}
+use Rattle.core_state.specs.Stands.{Fields, Stands, opens_in, opens_at, closed_seen, KeepsLog}
 use Rattle.core_state.proofs.Reading.{some_at}
 use Rattle.core_batches.specs.Closes.{without_open, HasParts}
 use Rattle.core_batches.proofs.Limits.{flip, limits_after}
@@ -375,6 +375,25 @@ held_by core s spec held stands e at =
       opens = sym (ap opens_in at) ∙ x.opens s;
     }
 
+-- where no open batch of this first message has a trigger, that of the message's key has none
+pub untriggered : (core : Core) (s : StageNo) (held : Batches) (dry : Bool) (key : List ℕ) (first : ℕ) → IsHeld core s held → All (λ batch. first_of batch ≡ first → held_trigger held core.totals.now dry batch ≡ None) held.batches
+    → 1 ≤ first → first_in (of_key core.journal.steps key (gathered_in core.topology core.journal.steps s)) ≡ first
+    → held_trigger held core.totals.now dry (open_of core.journal.steps (gathered_in core.topology core.journal.steps s) key) ≡ None
+untriggered core s held dry key first h all least firsts =
+    let before = core.journal.steps in
+    let ns = gathered_in core.topology before s in
+    let each : Each (λ k. first_of (open_of before ns k) ≡ first → held_trigger held core.totals.now dry (open_of before ns k) ≡ None) (keys_of before ns) =
+    each_mapped (λ batch. first_of batch ≡ first → held_trigger held core.totals.now dry batch ≡ None) (open_of before ns) (keys_of before ns)
+    (each_of_all (λ batch. first_of batch ≡ first → held_trigger held core.totals.now dry batch ≡ None) (open_batches before ns)
+    (subst (λ bs. All (λ batch. first_of batch ≡ first → held_trigger held core.totals.now dry batch ≡ None) bs) h.opens all)) in
+    of_some_key before (λ k. first_of (open_of before ns k) ≡ first → held_trigger held core.totals.now dry (open_of before ns k) ≡ None) key ns each
+    (some_of (of_key before key ns) first least firsts)
+    (first_is (of_key before key ns) ∙ firsts)
+  where
+    some_of : (xs : List ℕ) (n : ℕ) → 1 ≤ n → first_in xs ≡ n → is_empty xs ≡ false
+    some_of [] n low e = absurd (omega (arith, low, e))
+    some_of (x ∷ xs) n low e = refl
+
 -- there is such an open batch
 pub none_open : (core : Core) (s : StageNo) (first : MsgNo) (trigger : Trigger) (held : Batches) (dry : Bool) → Stands core → IsHeld core s held → allows core.topology core.journal.steps (Close s first trigger) ≡ true
     → dry ≡ is_dry core.topology core.journal.steps s
@@ -390,21 +409,10 @@ none_open core s first trigger held dry stands h allowed dries all =
     let rule : trigger_of topology before s (closing before (view_of topology before) s first.0) ≡ Some trigger =
     trigger_some (trigger_of topology before s (closing before (view_of topology before) s first.0)) trigger
     (and_right (first.0 == first_in (closing before (view_of topology before) s first.0)) _ (and_right (nat_le 1 first.0) _ (and_right (has_role topology s is_batcher_role) _ (and_right (is_live_stage topology before s) _ (unowed topology before (Close s first trigger) (λ x. refl) (λ x. refl) allowed))))) in
-    let each : Each (λ k. first_of (open_of before ns k) ≡ first.0 → held_trigger held core.totals.now dry (open_of before ns k) ≡ None) (keys_of before ns) =
-    each_mapped (λ batch. first_of batch ≡ first.0 → held_trigger held core.totals.now dry batch ≡ None) (open_of before ns) (keys_of before ns)
-    (each_of_all (λ batch. first_of batch ≡ first.0 → held_trigger held core.totals.now dry batch ≡ None) (open_batches before ns)
-    (subst (λ bs. All (λ batch. first_of batch ≡ first.0 → held_trigger held core.totals.now dry batch ≡ None) bs) h.opens all)) in
-    let none : held_trigger held core.totals.now dry (open_of before ns key) ≡ None =
-    of_some_key before (λ k. first_of (open_of before ns k) ≡ first.0 → held_trigger held core.totals.now dry (open_of before ns k) ≡ None) key ns each
-    (some_of (of_key before key ns) first.0 facts.some firsts)
-    (first_is (of_key before key ns) ∙ firsts) in
+    let none = untriggered core s held dry key first.0 h all facts.some firsts in
     let same : held_trigger held core.totals.now dry (open_of before ns key) ≡ Some trigger =
     trigger_is topology before s held key core.totals.now dry h.size h.timeout (ap (λ (y : Totals). y.now) stands.holds.fields.totals) dries ∙ (ap (trigger_of topology before s) (sym closes) ∙ rule) in
     (let wrong : None ≡ Some trigger = sym none ∙ same in cc)
-  where
-    some_of : (xs : List ℕ) (n : ℕ) → 1 ≤ n → first_in xs ≡ n → is_empty xs ≡ false
-    some_of [] n low e = absurd (omega (arith, low, e))
-    some_of (x ∷ xs) n low e = refl
 
 -- the open batch that was found is the one that is closed, and its trigger that of the step
 pub record IsFound (core : Core) (s : StageNo) (first : MsgNo) (trigger : Trigger) (at : ℕ) (found : Trigger) (batch : OpenBatch) : Type 0 where
@@ -513,8 +521,8 @@ parts_here topology s sound role low high =
 -- Where the journal and the tables made room alone, the core stands
 pub roomy_stands : (core : Core) (j : Recorded) (rows : Vec BatchRow Global) (queues : Vec (VecDeque (ℕ × ℕ) Global) Global) → Stands core → j.steps ≡ core.journal.steps → rows.items ≡ core.batches.items
     → ((t : StageNo) → queue_at queues.items t ≡ queue_at core.waiting.items t) → length queues.items ≡ length core.waiting.items
-    → core.journal.spare ≤ j.spare → ((t : StageNo) → spare_at core.waiting.items t ≤ spare_at queues.items t) → Stands (record core { journal = j; batches = rows; waiting = queues })
-roomy_stands core j rows queues stands same kept queued len spare rooms =
+    → core.journal.spare ≤ j.spare → ((t : StageNo) → spare_at core.waiting.items t ≤ spare_at queues.items t) → j.acked ≡ core.journal.acked → Stands (record core { journal = j; batches = rows; waiting = queues })
+roomy_stands core j rows queues stands same kept queued len spare rooms acked =
     record {
       holds =
           record {
@@ -522,6 +530,7 @@ roomy_stands core j rows queues stands same kept queued len spare rooms =
             legal = ap (is_legal core.topology) same ∙ stands.holds.legal;
             fields = subst (λ (h : History). Fields (record core { journal = j; batches = rows; waiting = queues }) core.topology h) (sym same) (fields core.topology core.journal.steps stands.holds.fields);
             room = subst (λ (h : History). Roomy (record core { journal = j; batches = rows; waiting = queues }) core.topology h) (sym same) (room core.topology core.journal.steps stands.holds.room);
+            log = subst (λ (h : History). KeepsLog core.topology h j.acked) (sym same) (subst (KeepsLog core.topology core.journal.steps) (sym acked) stands.holds.log);
           };
       unowed = ap (owed core.topology) same ∙ stands.unowed;
     }

@@ -52,7 +52,7 @@ use Rattle.core_laws.proofs.Lawful.{legal_after}
 use Rattle.core_laws.proofs.Past.{known_within, live_known}
 use Rattle.core_state.specs.declared.state.Core.{Core}
 use Rattle.core_state.specs.Room.{Roomy}
-use Rattle.core_state.specs.Stands.{Fields, Stands, opens_in, opens_at}
+use Rattle.core_state.specs.Stands.{Fields, Stands, opens_in, opens_at, KeepsLog}
 use Rattle.core_state.proofs.Reading.{some_at}
 use Rattle.stage_laws.proofs.Numbering.{numbered_topology}
 use Rattle.core_batches.specs.Rows.{with_message, handled_on}
@@ -285,8 +285,8 @@ gathered_fields core topology before s m u message j batchers inboxes places sub
 -- Where the journal alone made room and the batchers say what they said, the core stands
 pub refused_stands : (core : Core) (j : Recorded) (batchers : Vec Batches Global) → Stands core → j.steps ≡ core.journal.steps
     → ((i : ℕ) → slice_get batchers.items i ≡ slice_get core.batchers.items i) → length batchers.items ≡ length core.batchers.items
-    → core.journal.spare ≤ j.spare → Stands (record core { journal = j; batchers = batchers })
-refused_stands core j batchers stands same kept len spare =
+    → core.journal.spare ≤ j.spare → j.acked ≡ core.journal.acked → Stands (record core { journal = j; batchers = batchers })
+refused_stands core j batchers stands same kept len spare acked =
     record {
       holds =
           record {
@@ -294,6 +294,7 @@ refused_stands core j batchers stands same kept len spare =
             legal = ap (is_legal core.topology) same ∙ stands.holds.legal;
             fields = subst (λ (h : History). Fields (record core { journal = j; batchers = batchers }) core.topology h) (sym same) (fields core.topology core.journal.steps stands.holds.fields);
             room = subst (λ (h : History). Roomy (record core { journal = j; batchers = batchers }) core.topology h) (sym same) (room core.topology core.journal.steps stands.holds.room);
+            log = subst (λ (h : History). KeepsLog core.topology h j.acked) (sym same) (subst (KeepsLog core.topology core.journal.steps) (sym acked) stands.holds.log);
           };
       unowed = ap (owed core.topology) same ∙ stands.unowed;
     }

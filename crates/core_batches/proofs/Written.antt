@@ -1,5 +1,5 @@
 -- The fields after a batch was answered.
-use Rattle.std.proofs.Common.{◌≡◌, ◌≢◌, ℕ, zero, suc, set, ◌+◌, ◌-◌, ◌<◌, ◌≤◌, List, [], ◌∷◌, map, length, Bool, true, false, refl, ap, sym, ◌∙◌, Some, None, Option, arith, subst, inl, inr, get_or}
+use Rattle.std.proofs.Common.{◌≡◌, ◌≢◌, ℕ, zero, suc, set, ◌+◌, ◌-◌, ◌<◌, ◌≤◌, List, [], ◌∷◌, map, length, Bool, true, false, refl, ap, sym, ◌∙◌, Some, None, Option, arith, subst, inl, inr, get_or, ◌++◌, All}
 use Rattle.std.specs.Prelude.{slice_get, option_map, if◌then◌else◌, ◌==◌, ◌&&◌, ◌||◌, ◌⊎◌, is_some, IfSome, unwrap_or, position}
 use Rattle.std.proofs.lemmas.Bool.{eqb-true, ne_eqb, false_from_ne_true}
 use Rattle.std.proofs.lemmas.Option.{slice_get_read}
@@ -22,7 +22,7 @@ use Rattle.pipe_model.specs.Posts.{last_take}
 use Rattle.pipe_model.specs.Lives.{generation, current_sub}
 use Rattle.pipe_model.specs.Batches.{Batch, Sent, Leg, is_settled, settled_as, lost_leg, failed_leg, on_legs, leg_answered, batch_on_legs}
 use Rattle.pipe_model.specs.Content.{content, key_in}
-use Rattle.pipe_model.specs.Flow.{place, batch, sent, among, first_in, change_place, closing, view_of, is_empty}
+use Rattle.pipe_model.specs.Flow.{place, batch, sent, among, first_in, change_place, closing, view_of, is_empty, numbers_in}
 use Rattle.pipe_model.specs.Ledger.{handled, taken_on}
 use Rattle.pipe_model.specs.Legal.{allows, gathered_at, ends_in_flush}
 use Rattle.pipe_model.specs.Moves.{is_final}
@@ -57,7 +57,7 @@ use Rattle.core_laws.proofs.Marks.{mark_is, open_unsettled}
 use Rattle.core_laws.proofs.Lawful.{each_all}
 use Rattle.core_state.proofs.Ending.{post_home}
 use Rattle.core_state.specs.declared.state.Core.{Core}
-use Rattle.core_state.specs.Stands.{Fields, Stands, closed_seen}
+use Rattle.core_state.specs.Stands.{Fields, Stands, closed_seen, Holds}
 use Rattle.core_state.proofs.Reading.{some_at}
 use Rattle.core_batches.specs.Rows.{handled_on}
 use Rattle.core_state.specs.Settles.{ended_by, marked_by, AreNumbers}
@@ -67,6 +67,12 @@ use Rattle.core_batches.proofs.Opens.{each_same, without}
 use Rattle.core_batches.proofs.Writing.{IsWriting, Written, writing, ends_put, end_none, in_progress_as, open_at, took_before, write_within}
 use Rattle.core_state.proofs.Settling.{ended_is, pairs_apart}
 use Rattle.core_state.proofs.Parts.{Part, ChunksAre, EndsLen, InboxesAre, LegsAre, OpensAre, PlacesAre, PlacesLen, PostsAre, PostsLen, SettledAre, SettledLen, SubsAre, TotalsAre, WaitingAre, Says, unchanged, fields_of}
+use Rattle.core_laws.proofs.Acked.{MayAck, may_ack}
+use Rattle.core_state.proofs.Steps.{log_fits}
+use Rattle.pipe_model.specs.Acknowledgements.{is_acked}
+use Rattle.pipe_journal.specs.declared.acked.AckRow.{AckRow}
+use Rattle.std.specs.List.{flat_map, filter_map}
+use Rattle.std.proofs.lemmas.List.{append-nil}
 
 -- Open batches
 
@@ -407,3 +413,32 @@ module _ (core : Core) (s : StageNo) (bytes : ℕ) (os : List Outcome) (u : SubN
       subst (λ t. (i : ℕ) → slice_get new i ≡ option_map (marked_by settled h.written.ms t (suc i)) (slice_get old i)) same
       (subst (λ ms. (i : ℕ) → slice_get new i ≡ option_map (marked_by settled ms tick (suc i)) (slice_get old i)) h.numbers
       (subst (λ (o : Option BatchRow). IfSome o (λ row. (i : ℕ) → slice_get new i ≡ option_map (marked_by settled row.numbers.items tick (suc i)) (slice_get old i))) h.at claim))
+
+  -- what the write may acknowledge are the messages of the batch
+  pub written_acks : MayAck core.topology core.journal.steps (Wrote s bytes (Outcomes os)) h.written.ms
+  written_acks =
+      may_ack core.topology core.journal.steps (Wrote s bytes (Outcomes os)) h.written.ms h.written.is.legal h.written.is.apart
+      (each_weaker (λ n. place core.topology core.journal.steps n ≡ Some (InBatch (batch_no b))) (λ n. is_acked (place core.topology core.journal.steps n) ≡ false) (λ n p. ap is_acked p) h.written.ms h.written.is.inside)
+      (each_weaker (λ n. place core.topology core.journal.steps n ≡ Some (InBatch (batch_no b))) (λ n. (1 ≤ n) × (n ≤ accepted core.journal.steps))
+      (λ n p. placed_accepted core.topology core.journal.steps n (ap is_some p)) h.written.ms h.written.is.inside)
+      (λ n t. sym (ap (λ ns. among ns n)
+      (ap (λ bs. flat_map (λ k. numbers_in (batch core.topology core.journal.steps k)) bs) h.written.is.took
+      ∙ (ap (λ o. numbers_in o ++ []) h.written.is.batch_is ∙ append-nil h.written.ms))) ∙ t)
+
+  pub numbers_least : accepted core.journal.steps ≡ length core.places.items → IfSome (slice_get core.batches.items (b - 1)) (λ row. All (λ n. 1 ≤ n) row.numbers.items)
+  numbers_least len =
+      subst (λ (o : Option BatchRow). IfSome o (λ row. All (λ n. 1 ≤ n) row.numbers.items)) (sym h.at)
+      (λ i d below. ((subst (λ (o : Option BatchRow). IfSome o (λ row. AreNumbers (length core.places.items) row.numbers.items)) h.at (numbers_here len)).within i d below).0)
+
+  pub numbers_fit : Holds core → IfSome (slice_get core.batches.items (b - 1)) (λ row. length core.journal.acked.rows + length row.numbers.items ≤ core.journal.acked.room)
+  numbers_fit x =
+      subst (λ (o : Option BatchRow). IfSome o (λ row. length core.journal.acked.rows + length row.numbers.items ≤ core.journal.acked.room)) (sym h.at)
+      (let many = ap length h.numbers in
+      let fits = log_fits core (Wrote s bytes (Outcomes os)) h.written.ms x written_acks in
+      omega (arith, many, fits))
+
+  pub rows_by : (f : ℕ → Option AckRow) (rows : List AckRow) → IfSome (slice_get core.batches.items (b - 1)) (λ row. rows ≡ core.journal.acked.rows ++ filter_map f row.numbers.items)
+      → rows ≡ core.journal.acked.rows ++ filter_map f h.written.ms
+  rows_by f rows claim =
+      subst (λ ms. rows ≡ core.journal.acked.rows ++ filter_map f ms) h.numbers
+      (subst (λ (o : Option BatchRow). IfSome o (λ row. rows ≡ core.journal.acked.rows ++ filter_map f row.numbers.items)) h.at claim)

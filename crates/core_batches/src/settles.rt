@@ -1,14 +1,15 @@
 //! How the messages of a batch end.
 
-ghost use Rattle.std.specs.Prelude.{◌≡◌, ℕ, suc, ◌<◌, ◌≤◌, length, IfSome, slice_get, vec_capacity, option_map};
-ghost use Rattle.core_state.specs.Settles.{ended_by, marked_by, AreNumbers};
+ghost use Rattle.std.specs.{Prelude.{◌≡◌, ℕ, suc, ◌+◌, ◌++◌, ◌<◌, ◌≤◌, length, All, IfSome, slice_get, vec_capacity, option_map}, List.{filter_map}};
+ghost use Rattle.core_state.specs.Settles.{ended_by, marked_by, noted, AreNumbers};
 ghost use Rattle.core_batches.specs.Writes.{leg_place};
 
-use core_state::settles::{mark_all, settle_all};
+use core_state::settles::{mark_all, note_acked, settle_all};
 use core_tables::rows::BatchRow;
 use message_ack::Settled;
+use pipe_journal::Journal;
 use pipe_types::message::Place;
-use pipe_types::numbers::SubNo;
+use pipe_types::numbers::{StageNo, SubNo};
 
 /// How many legs of the batch in the row stand before the one on this subscription.
 pub(crate) fn leg_of_batch(batches: &Vec<BatchRow>, at: usize, sub: SubNo) -> u16
@@ -77,4 +78,24 @@ fn end_all(
         settle_all(places, numbers, &settled);
         mark_all(marks, numbers, mark);
     }
+}
+
+/// Notes those messages of the batch in the row that are acknowledged in the journal's log, as by the step at that place.
+pub(crate) fn note_batch(
+    journal: &mut Journal,
+    places: &[Place],
+    producers: &[StageNo],
+    batches: &Vec<BatchRow>,
+    at: usize,
+    mark: u64,
+)
+    requires there { at < length batches.now.items }
+    requires least { IfSome (slice_get batches.now.items at) (λ row. All (λ n. 1 ≤ n) row.numbers.items) }
+    requires room { IfSome (slice_get batches.now.items at) (λ row. length journal.old.acked.rows + length row.numbers.items ≤ journal.old.acked.room) }
+    ensures noted { IfSome (slice_get batches.now.items at) (λ row. journal.new.acked.rows ≡ journal.old.acked.rows ++ filter_map (noted places.now producers.now mark) row.numbers.items) }
+    ensures same_room { journal.new.acked.room ≡ journal.old.acked.room }
+    ensures same_steps { journal.new.steps ≡ journal.old.steps }
+    ensures same_spare { journal.new.spare ≡ journal.old.spare }
+{
+    note_acked(journal, places, producers, &batches[at].numbers, mark);
 }

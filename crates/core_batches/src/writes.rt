@@ -9,7 +9,7 @@ ghost use Rattle.core_state.specs.Stands.{Stands};
 ghost use Rattle.core_batches.specs.Writes.{IsAnswered};
 
 use crate::rows::count_handled;
-use crate::settles::{end_batch, leg_of_batch};
+use crate::settles::{end_batch, leg_of_batch, note_batch};
 use core_state::Core;
 use core_tables::posts::come_home;
 use message_ack::LegEnd;
@@ -63,6 +63,14 @@ fn answer_leg(core: &mut Core, stage: StageNo, end: BatchEnd, bytes: u64)
         &core.batches,
         at,
         settled,
+        mark,
+    );
+    note_batch(
+        &mut core.journal,
+        &core.places,
+        &core.producers,
+        &core.batches,
+        at,
         mark,
     );
     come_home(&mut core.posts, stage, 0);

@@ -57,6 +57,7 @@ fn make_end_room(journal: &mut Journal, stage: StageNo) -> Result<(), AllocError
     ensures spare { journal.old.spare ≤ journal.new.spare }
     ensures room { OnOk result ((stage.0 == 0) ≡ true → 1089 ≤ journal.new.spare) }
     ensures producers { 1 ≤ stage.0 → IsOk result }
+    ensures same_acked { journal.new.acked ≡ journal.old.acked }
 {
     if stage.0 == 0 {
         return journal.reserve(MOST_DUE + 1);

@@ -1,6 +1,6 @@
 -- The fields after the end of a child's run.
-use Rattle.std.proofs.Common.{◌≡◌, ◌≢◌, ℕ, suc, ◌+◌, ◌<◌, ◌≤◌, List, ◌∷◌, length, map, filter, Bool, true, false, refl, ap, sym, ◌∙◌, Some, None, Option, arith, inl, inr, subst, get_or}
-use Rattle.std.specs.Prelude.{slice_get, option_map, if◌then◌else◌, ◌==◌, ◌&&◌, ◌⊎◌, not, is_some, IfSome, IsSome}
+use Rattle.std.proofs.Common.{◌≡◌, ◌≢◌, ℕ, suc, ◌+◌, ◌<◌, ◌≤◌, List, ◌∷◌, length, map, filter, Bool, true, false, refl, ap, sym, ◌∙◌, Some, None, Option, arith, inl, inr, subst, get_or, []}
+use Rattle.std.specs.Prelude.{slice_get, option_map, if◌then◌else◌, ◌==◌, ◌&&◌, ◌⊎◌, not, is_some, IfSome, IsSome, option_to_list}
 use Rattle.std.specs.declared.alloc.Global.{Global}
 use Rattle.std.specs.declared.vec.Vec.{Vec}
 use Rattle.std.proofs.lemmas.Bool.{eqb-true, eq-eqb}
@@ -25,7 +25,7 @@ use Rattle.pipe_laws.proofs.Allowed.{child_end_facts}
 use Rattle.pipe_model.specs.History.{History, accepted, incarnation}
 use Rattle.pipe_model.specs.Posts.{is_out, in_slot, crashes}
 use Rattle.pipe_model.specs.Lives.{generation, current_sub}
-use Rattle.pipe_model.specs.Flow.{place, sent, sent_to, runs_again, child_place, child_ended, is_number, runs_in}
+use Rattle.pipe_model.specs.Flow.{place, sent, sent_to, runs_again, child_place, child_ended, is_number, runs_in, among}
 use Rattle.pipe_model.specs.Ledger.{handled, came_on, crashed_reply, crashes_of}
 use Rattle.pipe_model.specs.Legal.{is_legal, allows, has_role, is_supervisor_role}
 use Rattle.pipe_model.specs.Moves.{is_final}
@@ -58,6 +58,8 @@ use Rattle.core_children.specs.Slots.{left_in}
 use Rattle.core_children.proofs.Next.{out_slot}
 use Rattle.core_state.proofs.Parts.{Part, ChildrenAre, ChildrenLen, ChildrenSet, ChunksAre, ChunksLen, InboxesAre, OpensAre, PlacesAre, PlacesLen, PostsAre, PostsLen, SettledAre, SettledLen, SubsAre, TotalsAre, WaitingAre, Says, unchanged, fields_of}
 use Rattle.std.proofs.lemmas.Option.{slice_get_read}
+use Rattle.core_laws.proofs.Acked.{MayAck, may_ack}
+use Rattle.pipe_model.specs.Acknowledgements.{is_acked}
 
 -- ---- what is known
 
@@ -346,6 +348,13 @@ ended_fields core s slot reply n again j posts subs chunks children places settl
     says SettledAre = λ i below. new.marks i ∙ marked_after topology before s slot reply n again i (slice_get core.settled.items i) k (x.settled i below)
     says TotalsAre = ap (λ (y : Totals). record y { quiet = 0 }) x.totals
     says it = unchanged x it
+
+-- what the end of a run may acknowledge is its message
+pub end_acks : (topology : Topology) (before : History) (s : StageNo) (slot : ℕ) (reply : Reply) (n : ℕ) (again : Bool) → Ends topology before s slot reply n again
+    → MayAck topology before (ChildEnd s slot reply) (n ∷ [])
+end_acks topology before s slot reply n again k =
+    may_ack topology before (ChildEnd s slot reply) (n ∷ []) k.legal (tt, tt) (ap is_acked k.ran, tt) ((k.least, k.most), tt)
+    (λ m h. sym (ap (λ o. among (option_to_list o) m) k.own) ∙ h)
 
 -- ---- what the code reads
 

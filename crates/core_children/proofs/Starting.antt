@@ -21,8 +21,8 @@ use Rattle.pipe_laws.proofs.Tests.{and_left, and_right, both, same_stage-true, s
 use Rattle.pipe_laws.proofs.Kept.{runs_here}
 use Rattle.pipe_laws.proofs.Slots.{number_is}
 use Rattle.pipe_laws.proofs.Allowed.{ChildFacts, child_facts}
-use Rattle.pipe_model.specs.History.{History, incarnation}
-use Rattle.pipe_model.specs.Posts.{is_out, out_from, in_slot, crashes}
+use Rattle.pipe_model.specs.History.{History}
+use Rattle.pipe_model.specs.Posts.{is_out, in_slot, crashes}
 use Rattle.pipe_model.specs.Flow.{place, inbox, waiting}
 use Rattle.pipe_model.specs.Standing.{gathered_in}
 use Rattle.pipe_model.specs.Legal.{is_legal, allows, has_role, is_supervisor_role, runs_number}
@@ -47,6 +47,7 @@ use Rattle.core_state.specs.declared.state.Core.{Core}
 use Rattle.core_state.specs.Stands.{Fields, Holds, child_at}
 use Rattle.core_state.proofs.Homes.{post_same}
 use Rattle.core_takes.specs.Takes.{out_of}
+use Rattle.core_takes.proofs.Taking.{post_out}
 use Rattle.core_state.proofs.Parts.{Part, CameAre, CameLen, ChildrenAre, ChildrenLen, ChildrenSet, ChunksAre, ChunksLen, InboxesAre, InboxesLen, OpensAre, PlacesAre, PlacesLen, PostsAre, PostsLen, TotalsAre, WaitingAre, Says, unchanged, fields_of}
 
 -- what the passes of a child's start leave
@@ -79,12 +80,7 @@ started_fields core topology before s m slot j posts came_on inboxes chunks chil
   where
     out : (b : Bool) (t : StageNo) (k : ℕ) → same_post (post t k) (post s slot) ≡ b → slice_get core.posts.items (post_at t.0 k) ≡ Some (post_row before t k)
         → (if b then out_of (slice_get core.stages.items s.0) else slice_get core.posts.items (post_at t.0 k)) ≡ Some (post_row (Child s m slot ∷ before) t k)
-    out true t k e at =
-        let same : t ≡ s = same_stage-true t s (and_left (same_stage t s) _ e) in
-        ap out_of (x.stages s new.within)
-        ∙ (ap (λ v. Some (record { out = true; from = incarnation before v })) (sym same)
-        ∙ ap (λ b. Some (record { out = b || is_out before (post t k); from = if b then incarnation before t else out_from before (post t k) })) (sym e))
-    out false t k e at = at ∙ ap (λ b. Some (record { out = b || is_out before (post t k); from = if b then incarnation before t else out_from before (post t k) })) (sym e)
+    out b t k e at = post_out core topology before s t slot k b (x.stages s new.within) e at
 
     says : (it : Part) → Says it (record core { journal = j; posts = posts; came = came_on; inboxes = inboxes; chunks = chunks; children = children; places = places; totals = record core.totals { quiet = 0 } }) topology (Child s m slot ∷ before)
     says PostsLen = new.posts-len ∙ x.sized.posts

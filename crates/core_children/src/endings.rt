@@ -9,6 +9,7 @@ use crate::ends::{
 };
 use crate::slots::{end_in, number_in};
 use core_state::Core;
+use core_state::settles::note_one;
 use core_tables::posts::{SLOTS, come_home};
 use core_takes::replies::count_handled;
 use pipe_types::message::Reply;
@@ -54,6 +55,7 @@ pub fn end_run(core: &mut Core, stage: StageNo, slot: u16, reply: Reply)
     put_place(&mut core.places, no, place);
     let mark = mark_of(again, entry);
     put_mark(&mut core.settled, no, mark);
+    note_one(&mut core.journal, &core.places, &core.producers, no, entry);
     let units = units_handled(again);
     count_handled(&mut core.subs, sub, units);
     come_home(&mut core.posts, stage, slot);

@@ -73,7 +73,7 @@ crash_leaves topology before s replies sound after crash =
       restarts = λ l. refl;
     }
 
-crash_stays : (topology : Topology) (before : History) (s : StageNo) (replies : List Reply) → has_crash replies ≡ true → Stays topology before (Done s replies)
+pub crash_stays : (topology : Topology) (before : History) (s : StageNo) (replies : List Reply) → has_crash replies ≡ true → Stays topology before (Done s replies)
 crash_stays topology before s replies crash =
     record {
       places = λ n. ap (λ b. if b then place topology before n else option_map (done (has_batchers_in (spec_of topology s)) (chunk_by (view_of topology before) s) replies s n) (place topology before n)) crash;
@@ -132,7 +132,7 @@ batch_stays topology before n (Some (InBatch d)) e = stays_in (batch topology be
     stays_in (Some x) k = ap Some (going_in d.0 x.place (unwrap_or (position (λ m. m == n) x.numbers) 0) k)
 batch_stays topology before n _ e = refl
 
-write_stays : (topology : Topology) (before : History) (s : StageNo) → Stays topology before (Wrote s 0 BatchCrashed)
+pub write_stays : (topology : Topology) (before : History) (s : StageNo) → Stays topology before (Wrote s 0 BatchCrashed)
 write_stays topology before s =
     record {
       places = λ n. batch_stays topology before n (place topology before n) refl;

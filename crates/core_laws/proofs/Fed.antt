@@ -6,8 +6,8 @@ use Rattle.pipe_types.specs.declared.topology.StageSpec.{StageSpec}
 use Rattle.pipe_types.specs.declared.topology.Role.{Role}
 use Rattle.pipe_types.specs.declared.topology.Role.TheVariants.{Producer, Processor, Supervisor, Batcher, BatchProcessor}
 use Rattle.pipe_types.specs.Stages.{role_feeds, spec_feeds}
-use Rattle.pipe_types.specs.Sound.{is_ordered, may_begin, may_go_on, may_follow, is_next, batchers}
-use Rattle.pipe_laws.proofs.Levels.{rank_of}
+use Rattle.pipe_types.specs.Sound.{is_ordered, may_begin, may_go_on, may_follow, batchers}
+use Rattle.pipe_laws.proofs.Levels.{next_rank, rank_of}
 use Rattle.pipe_laws.proofs.Tests.{and_left, and_right}
 
 fed_rank : (p c : Role) (b : Bool) → role_feeds p c b ≡ true → rank_of p < rank_of c
@@ -28,29 +28,6 @@ fed_rank Batcher Processor b h = cc
 fed_rank Batcher Supervisor b h = cc
 fed_rank Batcher Batcher b h = cc
 fed_rank BatchProcessor c b h = cc
-
-next_rank : (a b : Role) (x y : StageSpec) → is_next a b x y ≡ true → rank_of a ≤ rank_of b
-next_rank Producer Producer x y h = omega arith
-next_rank Producer Processor x y h = omega arith
-next_rank Producer Supervisor x y h = omega arith
-next_rank Processor Processor x y h = omega arith
-next_rank Processor Batcher x y h = omega arith
-next_rank Batcher Batcher x y h = omega arith
-next_rank Batcher BatchProcessor x y h = omega arith
-next_rank BatchProcessor BatchProcessor x y h = omega arith
-next_rank Producer Batcher x y h = cc
-next_rank Producer BatchProcessor x y h = cc
-next_rank Processor Producer x y h = cc
-next_rank Processor Supervisor x y h = cc
-next_rank Processor BatchProcessor x y h = cc
-next_rank Supervisor b x y h = cc
-next_rank Batcher Producer x y h = cc
-next_rank Batcher Processor x y h = cc
-next_rank Batcher Supervisor x y h = cc
-next_rank BatchProcessor Producer x y h = cc
-next_rank BatchProcessor Processor x y h = cc
-next_rank BatchProcessor Supervisor x y h = cc
-next_rank BatchProcessor Batcher x y h = cc
 
 -- ranks grow along the stages
 rank_above : (n : ℕ) (spec : StageSpec) (specs : List StageSpec) → may_go_on n spec specs ≡ true → (j : ℕ) (c : StageSpec) → slice_get specs j ≡ Some c → rank_of spec.role ≤ rank_of c.role

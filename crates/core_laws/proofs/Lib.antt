@@ -16,3 +16,4 @@ pub mod Sums
 pub mod Due
 pub mod TakenBatches
 pub mod Feeders
+pub mod Acked

@@ -1,6 +1,6 @@
 -- The partitions of the units that wait are those by which a stage dispatches, and no two of its consumers have the same.
 use Rattle.std.proofs.Common.{subst, ◌≡◌, ◌≢◌, ℕ, suc, ◌+◌, ◌-◌, ◌<◌, List, [], ◌∷◌, ◌++◌, map, length, Bool, true, false, refl, ap, sym, ◌∙◌, Some, None, Option, arith}
-use Rattle.std.specs.Prelude.{if◌then◌else◌, ◌==◌, ◌&&◌, ◌||◌, option_map, filter, nat_le, nat_lt}
+use Rattle.std.specs.Prelude.{if◌then◌else◌, ◌==◌, ◌&&◌, ◌||◌, option_map, filter, is_some, nat_le, nat_lt}
 use Rattle.std.specs.List.{enumerate_from}
 use Rattle.std.proofs.lemmas.Bool.{eqb-true, eq-eqb}
 use Rattle.std.proofs.lemmas.List.Kept.{AllPairs-cons}
@@ -27,7 +27,7 @@ use Rattle.pipe_model.specs.History.{History, closed, asked, incarnation}
 use Rattle.pipe_model.specs.Lives.{is_live, current_sub, live_subs_from, kill_set}
 use Rattle.pipe_model.specs.Flow.{place, batch_waits_in, is_empty, batch, sent, view_of, waiting, numbers_in, first_in, among, closing, new_batch, next_units, change_place, deliveries, subs_of, partition_in, mark_in, serving_by, picks_by, alone, rooms_by, index_in, kind_in}
 use Rattle.pipe_model.specs.Legal.{is_legal}
-use Rattle.pipe_model.specs.Taken.{closed_as}
+use Rattle.pipe_model.specs.Taken.{Closed, closed_as}
 use Rattle.pipe_laws.proofs.Levels.{rank, rank_of, rank_in, feeds_down}
 use Rattle.pipe_laws.proofs.Lists.{Each, each_weaker, each_map}
 use Rattle.pipe_laws.proofs.Sounds.{sound_ascends}
@@ -40,35 +40,52 @@ use Rattle.core_laws.proofs.Lawful.{each_all}
 
 -- The messages of a closed batch
 
-same_numbers : (change : Batch → BatchPlace) (o : Option Batch) → numbers_in o ≡ numbers_in (option_map (λ x. change_place x (change x)) o)
+same_numbers : (change : Batch → BatchPlace) (o : Option Batch) → option_map (λ (x : Batch). x.numbers) o ≡ option_map (λ (x : Batch). x.numbers) (option_map (λ x. change_place x (change x)) o)
 same_numbers change None = refl
 same_numbers change (Some x) = refl
 
--- a batch has the messages with which it was closed
-pub closed_is : (topology : Topology) (before : History) (b : ℕ) → closed_numbers (closed_as topology before b) ≡ numbers_in (batch topology before b)
-closed_is topology [] b = refl
-closed_is topology (Close s first trigger ∷ before) b = either (b == closed before + 1) (closed_is topology before b)
+closed_so : (topology : Topology) (before : History) (b : ℕ) → option_map (λ (c : Closed). c.numbers) (closed_as topology before b) ≡ option_map (λ (x : Batch). x.numbers) (batch topology before b)
+closed_so topology [] b = refl
+closed_so topology (Close s first trigger ∷ before) b = either (b == closed before + 1) (closed_so topology before b)
   where
-    either : (is : Bool) → closed_numbers (closed_as topology before b) ≡ numbers_in (batch topology before b)
-        → closed_numbers (if is then Some (record { numbers = closing before (view_of topology before) s first.0; trigger = trigger }) else closed_as topology before b)
-        ≡ numbers_in (new_batch is (closing before (view_of topology before) s first.0) s (batch topology before b))
+    either : (is : Bool) → option_map (λ (c : Closed). c.numbers) (closed_as topology before b) ≡ option_map (λ (x : Batch). x.numbers) (batch topology before b)
+        → option_map (λ (c : Closed). c.numbers) (if is then Some (record { numbers = closing before (view_of topology before) s first.0; trigger = trigger }) else closed_as topology before b)
+        ≡ option_map (λ (x : Batch). x.numbers) (new_batch is (closing before (view_of topology before) s first.0) s (batch topology before b))
     either true known = refl
     either false known = known
-closed_is topology (Dispatch s ∷ before) b =
-    closed_is topology before b ∙ same_numbers (λ x. batch_sent s (among (alone topology before s) b) (subs_of (deliveries topology before s) b) x.place) (batch topology before b)
-closed_is topology (Take s u k ∷ before) b = closed_is topology before b ∙ either (among (next_units topology (view_of topology before) s u k) b)
+closed_so topology (Dispatch s ∷ before) b =
+    closed_so topology before b ∙ same_numbers (λ x. batch_sent s (among (alone topology before s) b) (subs_of (deliveries topology before s) b) x.place) (batch topology before b)
+closed_so topology (Take s u k ∷ before) b = closed_so topology before b ∙ either (among (next_units topology (view_of topology before) s u k) b)
   where
-    either : (is : Bool) → numbers_in (batch topology before b)
-        ≡ numbers_in (if is then option_map (λ x. change_place x (batch_on_legs (leg_taken s) x.place)) (batch topology before b) else batch topology before b)
+    either : (is : Bool) → option_map (λ (x : Batch). x.numbers) (batch topology before b)
+        ≡ option_map (λ (x : Batch). x.numbers) (if is then option_map (λ x. change_place x (batch_on_legs (leg_taken s) x.place)) (batch topology before b) else batch topology before b)
     either true = same_numbers (λ x. batch_on_legs (leg_taken s) x.place) (batch topology before b)
     either false = refl
-closed_is topology (Wrote s bytes (Outcomes outcomes) ∷ before) b =
-    closed_is topology before b ∙ same_numbers (λ x. batch_on_legs (leg_answered s outcomes) x.place) (batch topology before b)
-closed_is topology (Kill s why ∷ before) b =
-    closed_is topology before b ∙ same_numbers (λ x. batch_killed (kill_set topology before (Kill s why)) (incarnation before) x.place) (batch topology before b)
-closed_is topology (Halt ∷ before) b =
-    closed_is topology before b ∙ same_numbers (λ x. batch_killed (kill_set topology before Halt) (incarnation before) x.place) (batch topology before b)
-closed_is topology (step ∷ before) b = closed_is topology before b
+closed_so topology (Wrote s bytes (Outcomes outcomes) ∷ before) b =
+    closed_so topology before b ∙ same_numbers (λ x. batch_on_legs (leg_answered s outcomes) x.place) (batch topology before b)
+closed_so topology (Kill s why ∷ before) b =
+    closed_so topology before b ∙ same_numbers (λ x. batch_killed (kill_set topology before (Kill s why)) (incarnation before) x.place) (batch topology before b)
+closed_so topology (Halt ∷ before) b =
+    closed_so topology before b ∙ same_numbers (λ x. batch_killed (kill_set topology before Halt) (incarnation before) x.place) (batch topology before b)
+closed_so topology (step ∷ before) b = closed_so topology before b
+
+-- a batch has the messages with which it was closed
+pub closed_is : (topology : Topology) (before : History) (b : ℕ) → closed_numbers (closed_as topology before b) ≡ numbers_in (batch topology before b)
+closed_is topology before b = by (closed_as topology before b) (batch topology before b) (closed_so topology before b)
+  where
+    by : (c : Option Closed) (o : Option Batch) → option_map (λ (d : Closed). d.numbers) c ≡ option_map (λ (x : Batch). x.numbers) o → closed_numbers c ≡ numbers_in o
+    by None None e = refl
+    by (Some c) (Some x) e = let is : c.numbers ≡ x.numbers = cc in is
+    by _ _ e = cc
+
+-- each closed batch is there
+pub closed_there : (topology : Topology) (before : History) (b : ℕ) → is_some (closed_as topology before b) ≡ is_some (batch topology before b)
+closed_there topology before b = by (closed_as topology before b) (batch topology before b) (closed_so topology before b)
+  where
+    by : (c : Option Closed) (o : Option Batch) → option_map (λ (d : Closed). d.numbers) c ≡ option_map (λ (x : Batch). x.numbers) o → is_some c ≡ is_some o
+    by None None e = refl
+    by (Some c) (Some x) e = refl
+    by _ _ e = cc
 
 first_among : (ns : List ℕ) → is_empty ns ≡ false → among ns (first_in ns) ≡ true
 first_among [] h = cc

@@ -4,3 +4,4 @@ pub mod Contents
 pub mod Slots
 pub mod Enrolled
 pub mod Due
+pub mod Acked

@@ -3,6 +3,7 @@ use Rattle.std.proofs.Common.{◌≡◌, ℕ, zero, suc, ◌+◌, ◌<◌, ◌�
 use Rattle.std.specs.Prelude.{slice_get, if◌then◌else◌, not, ◌&&◌, ◌==◌, is_some, IfSome, IsSome}
 use Rattle.std.proofs.lemmas.Bool.{eq-eqb}
 use Rattle.std.proofs.lemmas.List.{length-map}
+use Rattle.std.proofs.Math.Bool.{and-false}
 use Rattle.pipe_types.specs.declared.numbers.SubNo.{SubNo}
 use Rattle.pipe_types.specs.declared.message.Loss.{Loss}
 use Rattle.pipe_model.specs.Batches.{BatchPlace, AtBatcher, Sent, Dropped, Leg, LegPlace, InInbox, AtWork, Answered, LegLost, on_legs, is_settled, is_leg_open}
@@ -77,19 +78,15 @@ first_end loss [] k leg e = cc
 first_end loss (x ∷ legs) zero leg e = let is : x ≡ leg = cc in ap (λ (y : Leg). Some (end_of y.place)) is
 first_end loss (x ∷ legs) (suc k) leg e = first_end loss legs k leg e
 
-and_none : (a : Bool) → (a && false) ≡ false
-and_none true = refl
-and_none false = refl
-
 first_open : (loss : SubNo → Option Loss) (legs : List Leg) (k : ℕ) (leg : Leg) → slice_get legs k ≡ Some leg → is_leg_open leg.place ≡ true → is_settled (first_lost k loss legs) ≡ false
 first_open loss [] k leg e h = cc
 first_open loss (x ∷ legs) zero leg e h = let is : x ≡ leg = cc in ap (λ b. not b && is_settled legs) (ap (λ (y : Leg). is_leg_open y.place) is ∙ h)
-first_open loss (x ∷ legs) (suc k) leg e h = ap (λ b. not (is_leg_open (lose_open (loss x.sub) x.place)) && b) (first_open loss legs k leg e h) ∙ and_none (not (is_leg_open (lose_open (loss x.sub) x.place)))
+first_open loss (x ∷ legs) (suc k) leg e h = ap (λ b. not (is_leg_open (lose_open (loss x.sub) x.place)) && b) (first_open loss legs k leg e h) ∙ and-false (not (is_leg_open (lose_open (loss x.sub) x.place)))
 
 unsettled : (legs : List Leg) (k : ℕ) (leg : Leg) → slice_get legs k ≡ Some leg → is_leg_open leg.place ≡ true → is_settled legs ≡ false
 unsettled [] k leg e h = cc
 unsettled (x ∷ legs) zero leg e h = let is : x ≡ leg = cc in ap (λ b. not b && is_settled legs) (ap (λ (y : Leg). is_leg_open y.place) is ∙ h)
-unsettled (x ∷ legs) (suc k) leg e h = ap (λ b. not (is_leg_open x.place) && b) (unsettled legs k leg e h) ∙ and_none (not (is_leg_open x.place))
+unsettled (x ∷ legs) (suc k) leg e h = ap (λ b. not (is_leg_open x.place) && b) (unsettled legs k leg e h) ∙ and-false (not (is_leg_open x.place))
 
 first_all : (loss : SubNo → Option Loss) (legs : List Leg) (k : ℕ) → length legs ≤ k → first_lost k loss legs ≡ on_legs (λ u p. lose_open (loss u) p) legs
 first_all loss [] zero h = refl

@@ -44,7 +44,7 @@ use Rattle.core_laws.proofs.LegsOn.{IsOnSubs, PlaceOn, legs_are_on, sent_waits}
 use Rattle.core_state.proofs.Settling.{pairs_apart}
 use Rattle.core_laws.specs.Columns.{closed_numbers, sent_on, part_of}
 use Rattle.core_laws.proofs.Lawful.{each_all}
-use Rattle.core_laws.proofs.Parts.{closed_is}
+use Rattle.core_laws.proofs.Parts.{closed_is, closed_there}
 use Rattle.core_state.specs.declared.state.Core.{Core}
 use Rattle.core_state.specs.Stands.{closed_seen}
 use Rattle.core_deaths.specs.Reasons.{reason_at}
@@ -150,37 +150,6 @@ dropped_on topology (Halt ∷ before) b h =
     let old = legal_before topology before Halt h in
     killed_drop (sent_on topology before b) (kill_set topology before Halt) (incarnation before) (batch topology before b) (legs_are_on topology before b old) (dropped_on topology before b old)
 dropped_on topology (step ∷ before) b h = dropped_on topology before b (legal_before topology before step h)
-
--- The numbers of a batch
-
-same_some : {A B : Type 0} (f : A → B) (o : Option A) → is_some o ≡ is_some (option_map f o)
-same_some f None = refl
-same_some f (Some x) = refl
-
--- each closed batch is there
-pub closed_there : (topology : Topology) (before : History) (b : ℕ) → is_some (closed_as topology before b) ≡ is_some (batch topology before b)
-closed_there topology [] b = refl
-closed_there topology (Close s first trigger ∷ before) b = either (b == closed before + 1) (closed_there topology before b)
-  where
-    either : (is : Bool) → is_some (closed_as topology before b) ≡ is_some (batch topology before b)
-        → is_some (if is then Some (record { numbers = closing before (view_of topology before) s first.0; trigger = trigger }) else closed_as topology before b)
-        ≡ is_some (new_batch is (closing before (view_of topology before) s first.0) s (batch topology before b))
-    either true known = refl
-    either false known = known
-closed_there topology (Dispatch s ∷ before) b =
-    closed_there topology before b ∙ same_some (λ x. change_place x (batch_sent s (among (alone topology before s) b) (subs_of (deliveries topology before s) b) x.place)) (batch topology before b)
-closed_there topology (Take s u k ∷ before) b = closed_there topology before b ∙ either (among (next_units topology (view_of topology before) s u k) b)
-  where
-    either : (is : Bool) → is_some (batch topology before b) ≡ is_some (if is then option_map (λ x. change_place x (batch_on_legs (leg_taken s) x.place)) (batch topology before b) else batch topology before b)
-    either true = same_some (λ x. change_place x (batch_on_legs (leg_taken s) x.place)) (batch topology before b)
-    either false = refl
-closed_there topology (Wrote s bytes (Outcomes outcomes) ∷ before) b =
-    closed_there topology before b ∙ same_some (λ x. change_place x (batch_on_legs (leg_answered s outcomes) x.place)) (batch topology before b)
-closed_there topology (Kill s why ∷ before) b =
-    closed_there topology before b ∙ same_some (λ x. change_place x (batch_killed (kill_set topology before (Kill s why)) (incarnation before) x.place)) (batch topology before b)
-closed_there topology (Halt ∷ before) b =
-    closed_there topology before b ∙ same_some (λ x. change_place x (batch_killed (kill_set topology before Halt) (incarnation before) x.place)) (batch topology before b)
-closed_there topology (step ∷ before) b = closed_there topology before b
 
 -- The batcher in which a batch waits
 

@@ -6,8 +6,6 @@ use Rattle.pipe_types.specs.declared.numbers.StageNo.{StageNo}
 use Rattle.pipe_types.specs.declared.numbers.SubNo.{SubNo}
 use Rattle.pipe_types.specs.declared.topology.Topology.{Topology}
 use Rattle.pipe_types.specs.declared.topology.StageSpec.{StageSpec}
-use Rattle.pipe_types.specs.declared.topology.Role.{Role}
-use Rattle.pipe_types.specs.declared.topology.Role.TheVariants.{Producer}
 use Rattle.pipe_types.specs.declared.message.Why.{Why}
 use Rattle.pipe_types.specs.declared.message.Why.TheVariants.{Crash, Kill as KillWhy, Stop, Cancelled, Limit}
 use Rattle.pipe_types.specs.declared.message.BatchEnd.TheVariants.{Outcomes, Crashed as BatchCrashed}
@@ -15,7 +13,6 @@ use Rattle.pipe_types.specs.declared.step.Step.{Step}
 use Rattle.pipe_types.specs.declared.step.Step.TheVariants.{Accept, Done, Wrote, Kill, Halt}
 use Rattle.pipe_types.specs.Numbers.{same_stage, subscription}
 use Rattle.pipe_types.specs.Sound.{IsSound}
-use Rattle.pipe_types.specs.Stages.{spec_of}
 use Rattle.pipe_model.specs.History.{History}
 use Rattle.pipe_model.specs.Posts.{last_take}
 use Rattle.pipe_model.specs.Lives.{KillSet, reason_in, exits, killed_feeder, cancelled, cascade_at, cascade, all_live, kill_set, is_live, generation}
@@ -24,8 +21,10 @@ use Rattle.pipe_model.specs.Flow.{among, sent_to, first_in}
 use Rattle.pipe_model.specs.Legal.{is_legal, allows, owed, passes, may_kill, may_come, may_dispatch, happened, is_halt, is_late, is_dispatch_of, is_crash_of, has_role, is_processor_role, is_batch_processor_role, is_current}
 use Rattle.pipe_model.specs.Standing.{at_work}
 use Rattle.pipe_model.specs.Work.{taken_units}
-use Rattle.pipe_laws.proofs.Tests.{and_right, clash, same_stage-true}
+use Rattle.pipe_laws.proofs.Tests.{and_right, same_stage-true}
 use Rattle.pipe_laws.proofs.Allowed.{legal_before, legal_step, done_facts, wrote_facts}
+use Rattle.pipe_laws.proofs.Busy.{two_roles}
+use Rattle.pipe_laws.proofs.Roles.{processor_writes}
 use Rattle.queue_laws.proofs.Counts.{TookBy, took}
 use Rattle.queue_laws.proofs.BatchWork.{owes_write}
 use Rattle.queue_laws.proofs.AtWork.{at_work_is, last_one}
@@ -84,18 +83,7 @@ all_none live (spec ∷ specs) s = by (live spec.no) (same_stage spec.no s) (all
             split false = h
 
 roles_differ : (topology : Topology) (s : StageNo) → has_role topology s is_processor_role ≡ true → has_role topology s is_batch_processor_role ≡ true → ⊥
-roles_differ topology s one other = by_spec (spec_of topology s) refl
-  where
-    by_role : (r : Role) → is_processor_role r ≡ true → is_batch_processor_role r ≡ true → ⊥
-    by_role Producer a b = cc
-    by_role _ a b = cc
-
-    by_spec : (o : Option StageSpec) → spec_of topology s ≡ o → ⊥
-    by_spec None e = let none : has_role topology s is_processor_role ≡ false = rw e refl in clash (has_role topology s is_processor_role) one none
-    by_spec (Some spec) e =
-        let p : has_role topology s is_processor_role ≡ is_processor_role spec.role = rw e refl in
-        let q : has_role topology s is_batch_processor_role ≡ is_batch_processor_role spec.role = rw e refl in
-        by_role spec.role (sym p ∙ one) (sym q ∙ other)
+roles_differ topology s one other = two_roles topology s is_processor_role is_batch_processor_role processor_writes one other
 
 -- a batch processor is killed for a crash exactly where its crash owes that
 pub crash_owes : (topology : Topology) (before : History) (step : Step) (c : StageNo) (w : Why) → is_legal topology before ≡ true → allows topology before step ≡ true → is_killing step ≡ true

@@ -3,6 +3,7 @@ use Rattle.std.proofs.Common.{◌≡◌, ℕ, ◌+◌, ◌<◌, ◌≤◌, List,
 use Rattle.std.specs.Prelude.{slice_get, if◌then◌else◌, ◌&&◌, ◌||◌, ◌==◌, not, nat_le, is_none, IsSome}
 use Rattle.std.proofs.lemmas.Bool.Decides.{nat_tests}
 use Rattle.std.proofs.lemmas.Bool.{false_from_ne_true, or_left, or_right}
+use Rattle.std.proofs.Math.Bool.{and-false}
 use Rattle.pipe_types.specs.declared.numbers.StageNo.{StageNo}
 use Rattle.pipe_types.specs.declared.topology.Topology.{Topology}
 use Rattle.pipe_types.specs.declared.topology.StageSpec.{StageSpec}
@@ -169,24 +170,15 @@ unjoined : (F L a b c d : Bool) → (L && (F && ((a && b) || (c && d)))) ≡ fal
 unjoined true true true true c d h e = absurd cc
 unjoined true true true false true true h e = absurd cc
 unjoined true true true false true false h e = (refl, refl)
-unjoined true true true false false d h e = (refl, by d)
-  where
-    by : (d : Bool) → (d && false) ≡ false
-    by true = refl
-    by false = refl
+unjoined true true true false false d h e = (refl, and-false d)
 unjoined true true false b true true h e = absurd cc
 unjoined true true false b true false h e = (refl, refl)
-unjoined true true false b false d h e = (refl, by d)
-  where
-    by : (d : Bool) → (d && false) ≡ false
-    by true = refl
-    by false = refl
+unjoined true true false b false d h e = (refl, and-false d)
 unjoined true false a b c d h e = (none a b, none d c)
   where
     none : (x y : Bool) → (x && (y && false)) ≡ false
-    none true true = refl
-    none true false = refl
-    none false y = refl
+    none x true = and-false x
+    none x false = and-false x
 unjoined false L a b c d h e = absurd cc
 
 pub unjoined_same : (topology : Topology) (live : StageNo → Bool) (s t c p : StageNo) (n : ℕ) → t.0 ≡ n + 1 → (live t && joins topology s t c p) ≡ false

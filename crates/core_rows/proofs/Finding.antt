@@ -1,20 +1,23 @@
 -- The first that passes a test, and whether any or all do, by going over a list.
 use Rattle.std.proofs.Common.{◌≡◌, ℕ, ◌+◌, ◌<◌, List, ◌∷◌, length, drop, Bool, true, false, refl, ap, sym, ◌∙◌, Some, get_or, if◌then◌else◌}
-use Rattle.std.specs.Prelude.{find, ◌&&◌, ◌||◌, slice_get}
+use Rattle.std.specs.Prelude.{find, option_map, ◌&&◌, ◌||◌}
 use Rattle.std.specs.List.{list_any, list_all}
 use Rattle.std.proofs.lemmas.List.{at_drop_more}
-use Rattle.std.proofs.lemmas.Option.{slice_get_read}
-use Rattle.pipe_types.specs.declared.topology.Topology.{Topology}
 use Rattle.pipe_types.specs.declared.topology.StageSpec.{StageSpec}
-use Rattle.pipe_types.specs.Sound.{IsSound}
-use Rattle.pipe_types.specs.Stages.{spec_of}
 use Rattle.pipe_model.specs.Posts.{slots}
-use Rattle.stage_laws.proofs.Numbering.{numbered_topology}
+pub use Rattle.stage_laws.proofs.Numbering.{stage_there}
 use Rattle.stage_laws.proofs.FewSlots.{slot_case}
 
 -- the item passes: it is the first
 pub found_here : {A : Type 0} (test : A → Bool) (xs : List A) (i : ℕ) (e : A) → i < length xs → test (get_or xs i e) ≡ true → find test (drop i xs) ≡ Some (get_or xs i e)
 found_here test xs i e below h = at_drop_more (find test) xs i e below ∙ ap (λ b. if b then Some (get_or xs i e) else find test (drop (i + 1) xs)) h
+
+-- it is the first of them all, where none before it passes
+pub found_no : (test : StageSpec → Bool) (specs stages : List StageSpec) (i : ℕ) (spec : StageSpec) → specs ≡ stages → i < length specs → spec ≡ get_or specs i spec → test spec ≡ true → find test (drop i specs) ≡ find test specs
+    → Some spec.no ≡ option_map (λ (s : StageSpec). s.no) (find test stages)
+found_no test specs stages i spec same below read passes so_far =
+    let here = found_here test specs i spec below (ap test (sym read) ∙ passes) in
+    ap (λ (o : StageSpec). Some o.no) read ∙ ap (option_map (λ (s : StageSpec). s.no)) (sym here ∙ (so_far ∙ ap (find test) same))
 
 -- it does not: the first is among those behind it
 pub not_here : {A : Type 0} (test : A → Bool) (xs : List A) (i : ℕ) (e : A) → i < length xs → test (get_or xs i e) ≡ false → find test (drop (i + 1) xs) ≡ find test (drop i xs)
@@ -33,13 +36,6 @@ all_not test xs i e below h = at_drop_more (list_all test) xs i e below ∙ ap (
 
 pub all_next : {A : Type 0} (test : A → Bool) (xs : List A) (i : ℕ) (e : A) → i < length xs → test (get_or xs i e) ≡ true → list_all test (drop (i + 1) xs) ≡ list_all test (drop i xs)
 all_next test xs i e below h = sym (at_drop_more (list_all test) xs i e below ∙ ap (λ b. b && list_all test (drop (i + 1) xs)) h)
-
--- a stage that is read from the list is its number's
-pub stage_there : (topology : Topology) (specs : List StageSpec) (i : ℕ) (spec : StageSpec) → IsSound topology → specs ≡ topology.stages → i < length specs → spec ≡ get_or specs i spec
-    → spec_of topology spec.no ≡ Some spec
-stage_there topology specs i spec sound is below read =
-    let at : slice_get specs i ≡ Some spec = slice_get_read specs (length specs) i spec refl below read in
-    (numbered_topology topology sound).found i spec (ap (λ xs. slice_get xs i) (sym is) ∙ at)
 
 -- the slots from one on
 pub slots_from : (k : ℕ) → k < 16 → drop k slots ≡ k ∷ drop (k + 1) slots

@@ -74,35 +74,50 @@ pub live_is : (core : Core) (c p : StageNo) → Holds core → feeds core.topolo
     → live_sub core.subs c p ≡ (if is_live_sub core.topology core.journal.steps (current_sub core.topology core.journal.steps c p) then Some (current_sub core.topology core.journal.steps c p) else None)
 live_is core c p x fed = ap (λ o. live_sub_in o c p) (x.fields.subs c p fed)
 
--- on the pair's live subscription an ask is due where the table has one
-pub pair_live : (core : Core) (c p : StageNo) (u : SubNo) → Holds core → feeds core.topology p c ≡ true → Some u ≡ live_sub core.subs c p
-    → sub_if_due core.subs u ≡ due_between core.topology core.journal.steps c p
-pair_live core c p u x fed is = by (is_live_sub core.topology core.journal.steps now) refl (is ∙ live_is core c p x fed)
+-- the live subscription that the table has of the pair is the current one
+pub now_live : (core : Core) (c p : StageNo) (u : SubNo) → Holds core → feeds core.topology p c ≡ true → Some u ≡ live_sub core.subs c p
+    → (u ≡ current_sub core.topology core.journal.steps c p) × (is_live_sub core.topology core.journal.steps (current_sub core.topology core.journal.steps c p) ≡ true)
+now_live core c p u x fed is = by (is_live_sub core.topology core.journal.steps now) (is ∙ live_is core c p x fed)
   where
     now : SubNo
     now = current_sub core.topology core.journal.steps c p
 
-    by : (b : Bool) → is_live_sub core.topology core.journal.steps now ≡ b → Some u ≡ (if is_live_sub core.topology core.journal.steps now then Some now else None) → sub_if_due core.subs u ≡ due_between core.topology core.journal.steps c p
-    by true live known =
-        let same : u ≡ now = same_Some u now (known ∙ ap (λ b. if b then Some now else None) live) in
-        ap (sub_if_due core.subs) same
-        ∙ (ap (λ n. if nat_lt 0 n then Some now else None) (due_seen core core.topology core.journal.steps now x.fields live)
-        ∙ ap (λ b. if b && is_due core.topology core.journal.steps now then Some now else None) (sym fed))
-    by false dead known = let wrong : Some u ≡ None = known ∙ ap (λ b. if b then Some now else None) dead in absurd cc
+    by : (b : Bool) → Some u ≡ (if b then Some now else None) → (u ≡ now) × (b ≡ true)
+    by true known = (same_Some u now known, refl)
+    by false known = let wrong : Some u ≡ None = known in absurd cc
+
+-- and where it has none, the current one is not live
+pub now_dead : (core : Core) (c p : StageNo) → Holds core → feeds core.topology p c ≡ true → None ≡ live_sub core.subs c p → is_live_sub core.topology core.journal.steps (current_sub core.topology core.journal.steps c p) ≡ false
+now_dead core c p x fed is = by (is_live_sub core.topology core.journal.steps now) (is ∙ live_is core c p x fed)
+  where
+    now : SubNo
+    now = current_sub core.topology core.journal.steps c p
+
+    by : (b : Bool) → None ≡ (if b then Some now else None) → b ≡ false
+    by true known = let wrong : None ≡ Some now = known in absurd cc
+    by false known = refl
+
+-- on the pair's live subscription an ask is due where the table has one
+pub pair_live : (core : Core) (c p : StageNo) (u : SubNo) → Holds core → feeds core.topology p c ≡ true → Some u ≡ live_sub core.subs c p
+    → sub_if_due core.subs u ≡ due_between core.topology core.journal.steps c p
+pair_live core c p u x fed is =
+    let at = now_live core c p u x fed is in
+    ap (sub_if_due core.subs) at.0
+    ∙ (ap (λ n. if nat_lt 0 n then Some now else None) (due_seen core core.topology core.journal.steps now x.fields at.1)
+    ∙ ap (λ b. if b && is_due core.topology core.journal.steps now then Some now else None) (sym fed))
+  where
+    now : SubNo
+    now = current_sub core.topology core.journal.steps c p
 
 -- where the pair has no live one none is due
 pub pair_dead : (core : Core) (c p : StageNo) → Holds core → feeds core.topology p c ≡ true → None ≡ live_sub core.subs c p
     → None ≡ due_between core.topology core.journal.steps c p
-pair_dead core c p x fed is = by (is_live_sub core.topology core.journal.steps now) refl (is ∙ live_is core c p x fed)
+pair_dead core c p x fed is =
+    ap (λ b. if true && b then Some now else None) (sym (due_dead core.topology core.journal.steps now (now_dead core c p x fed is)))
+    ∙ ap (λ b. if b && is_due core.topology core.journal.steps now then Some now else None) (sym fed)
   where
     now : SubNo
     now = current_sub core.topology core.journal.steps c p
-
-    by : (b : Bool) → is_live_sub core.topology core.journal.steps now ≡ b → None ≡ (if is_live_sub core.topology core.journal.steps now then Some now else None) → None ≡ due_between core.topology core.journal.steps c p
-    by true live known = let wrong : None ≡ Some now = known ∙ ap (λ b. if b then Some now else None) live in absurd cc
-    by false dead known =
-        ap (λ b. if true && b then Some now else None) (sym (due_dead core.topology core.journal.steps now dead))
-        ∙ ap (λ b. if b && is_due core.topology core.journal.steps now then Some now else None) (sym fed)
 
 pub feeds_self : (n : ℕ) → (n == n) ≡ true
 feeds_self n = grind (arith, nat_tests)

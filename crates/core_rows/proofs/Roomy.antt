@@ -2,21 +2,20 @@
 use Rattle.std.proofs.Common.{◌≡◌, ℕ, ◌+◌, ◌-◌, ◌<◌, List, [], ◌∷◌, length, drop, refl, ap, sym, Bool, true, false, None, Some, ◌∙◌, arith, get_or}
 use Rattle.std.specs.Prelude.{◌&&◌, ◌==◌, if◌then◌else◌}
 use Rattle.std.proofs.lemmas.List.{at_drop_more}
-use Rattle.std.proofs.lemmas.Option.{same_Some}
 use Rattle.pipe_types.specs.declared.numbers.StageNo.{StageNo}
 use Rattle.pipe_types.specs.declared.numbers.SubNo.{SubNo}
 use Rattle.pipe_types.specs.declared.topology.Topology.{Topology}
 use Rattle.pipe_types.specs.declared.topology.StageSpec.{StageSpec}
 use Rattle.pipe_types.specs.Stages.{feeds}
 use Rattle.pipe_model.specs.History.{History, asked}
-use Rattle.pipe_model.specs.Lives.{is_live, is_live_sub, current_sub, live_subs, live_subs_from, generation}
+use Rattle.pipe_model.specs.Lives.{is_live, current_sub, live_subs, live_subs_from, generation}
 use Rattle.pipe_model.specs.Flow.{room, open_demand, sent}
 use Rattle.pipe_laws.proofs.Tests.{and_left, and_right}
 use Rattle.stage_subs.specs.Subs.{live_sub, room_on, room_in}
 use Rattle.core_state.specs.declared.state.Core.{Core}
 use Rattle.core_state.specs.Stands.{Holds}
 use Rattle.core_rows.specs.Rows.{open_on, open_among}
-use Rattle.core_rows.proofs.Known.{live_is, feeds_self}
+use Rattle.core_rows.proofs.Known.{now_live, now_dead, feeds_self}
 
 -- the open demand of a list of subscriptions
 abbrev total : (SubNo → ℕ) → List SubNo → ℕ
@@ -60,7 +59,16 @@ unfed_open topology before p c unfit = ap (λ b. if b && is_live topology before
 -- on the pair's live subscription
 pub open_live : (core : Core) (p c : StageNo) (u : SubNo) → Holds core → feeds core.topology p c ≡ true → Some u ≡ live_sub core.subs c p
     → room_on core.subs u ≡ open_on core.topology core.journal.steps p c
-open_live core p c u x fed is = by (is_live_sub core.topology core.journal.steps now) refl (is ∙ live_is core c p x fed)
+open_live core p c u x fed is =
+    let at = now_live core c p u x fed is in
+    let lives : is_live core.topology core.journal.steps c ≡ true = and_left (is_live core.topology core.journal.steps c) _ (and_right (is_live core.topology core.journal.steps p) _ (and_right (feeds core.topology p c) _ at.1)) in
+    ap (room_on core.subs) at.0
+    ∙ (ap (λ o. room_in o (generation core.topology core.journal.steps c p)) (x.fields.subs c p fed)
+    ∙ (ap (λ b. if b && generation core.topology core.journal.steps c p == generation core.topology core.journal.steps c p then demand else 0) at.1
+    ∙ (ap (λ b. if b then demand else 0) (feeds_self (generation core.topology core.journal.steps c p))
+    ∙ (ap (λ b. if b then demand else 0) (sym at.1)
+    ∙ (ap (λ b. if true && b then open_demand core.topology core.journal.steps now else 0) (sym lives)
+    ∙ ap (λ b. if b && is_live core.topology core.journal.steps c then open_demand core.topology core.journal.steps now else 0) (sym fed))))))
   where
     now : SubNo
     now = current_sub core.topology core.journal.steps c p
@@ -68,22 +76,10 @@ open_live core p c u x fed is = by (is_live_sub core.topology core.journal.steps
     demand : ℕ
     demand = asked core.journal.steps now - sent core.topology core.journal.steps now
 
-    by : (b : Bool) → is_live_sub core.topology core.journal.steps now ≡ b → Some u ≡ (if is_live_sub core.topology core.journal.steps now then Some now else None) → room_on core.subs u ≡ open_on core.topology core.journal.steps p c
-    by true live known =
-        let same : u ≡ now = same_Some u now (known ∙ ap (λ b. if b then Some now else None) live) in
-        let lives : is_live core.topology core.journal.steps c ≡ true = and_left (is_live core.topology core.journal.steps c) _ (and_right (is_live core.topology core.journal.steps p) _ (and_right (feeds core.topology p c) _ live)) in
-        ap (room_on core.subs) same
-        ∙ (ap (λ o. room_in o (generation core.topology core.journal.steps c p)) (x.fields.subs c p fed)
-        ∙ (ap (λ b. if b && generation core.topology core.journal.steps c p == generation core.topology core.journal.steps c p then demand else 0) live
-        ∙ (ap (λ b. if b then demand else 0) (feeds_self (generation core.topology core.journal.steps c p))
-        ∙ (ap (λ b. if b then demand else 0) (sym live)
-        ∙ (ap (λ b. if true && b then open_demand core.topology core.journal.steps now else 0) (sym lives)
-        ∙ ap (λ b. if b && is_live core.topology core.journal.steps c then open_demand core.topology core.journal.steps now else 0) (sym fed))))))
-    by false dead known = let wrong : Some u ≡ None = known ∙ ap (λ b. if b then Some now else None) dead in absurd cc
-
 pub open_dead : (core : Core) (p c : StageNo) → Holds core → feeds core.topology p c ≡ true → None ≡ live_sub core.subs c p
     → 0 ≡ open_on core.topology core.journal.steps p c
-open_dead core p c x fed is = by (is_live_sub core.topology core.journal.steps now) refl (is ∙ live_is core c p x fed)
+open_dead core p c x fed is =
+    none_of (feeds core.topology p c && is_live core.topology core.journal.steps c) (open_demand core.topology core.journal.steps now) (ap (λ b. if b then demand else 0) (now_dead core c p x fed is))
   where
     now : SubNo
     now = current_sub core.topology core.journal.steps c p
@@ -94,8 +90,3 @@ open_dead core p c x fed is = by (is_live_sub core.topology core.journal.steps n
     none_of : (b : Bool) (n : ℕ) → n ≡ 0 → 0 ≡ (if b then n else 0)
     none_of true n e = sym e
     none_of false n e = refl
-
-    by : (b : Bool) → is_live_sub core.topology core.journal.steps now ≡ b → None ≡ (if is_live_sub core.topology core.journal.steps now then Some now else None) → 0 ≡ open_on core.topology core.journal.steps p c
-    by true live known = let wrong : None ≡ Some now = known ∙ ap (λ b. if b then Some now else None) live in absurd cc
-    by false dead known =
-        none_of (feeds core.topology p c && is_live core.topology core.journal.steps c) (open_demand core.topology core.journal.steps now) (ap (λ b. if b then demand else 0) dead)

@@ -1,6 +1,7 @@
 -- What is counted over all stages is counted of the journal.
 use Rattle.std.proofs.Common.{◌≡◌, Bool, true, false, refl, ap, sym, ◌∙◌}
 use Rattle.std.specs.Prelude.{◌&&◌, not}
+use Rattle.std.proofs.Math.Bool.{and-false, and-true}
 use Rattle.pipe_types.specs.declared.numbers.StageNo.{StageNo}
 use Rattle.pipe_types.specs.declared.topology.Topology.{Topology}
 use Rattle.pipe_types.specs.Sound.{IsSound}
@@ -28,17 +29,9 @@ drained_if topology before sound legal draining bare is =
     by (jobs_out topology before) refl
     ∙ sym (drained_law topology before sound legal ∙ ap (λ d. d && (not (jobs_out topology before) && all_clear topology before)) draining)
   where
-    never : (b : Bool) → (b && false) ≡ false
-    never true = refl
-    never false = refl
-
-    always : (b : Bool) → (b && true) ≡ b
-    always true = refl
-    always false = refl
-
     by : (j : Bool) → jobs_out topology before ≡ j → (bare && not j) ≡ (not j && all_clear topology before)
-    by true out = never bare
-    by false home = always bare ∙ is home
+    by true out = and-false bare
+    by false home = and-true bare ∙ is home
 
 -- where it drains and no fetch is out, a batcher is dry once nothing is left above it
 pub dry_by : (topology : Topology) (before : History) (b : StageNo) → IsSound topology → is_legal topology before ≡ true → has_role topology b is_batcher_role ≡ true

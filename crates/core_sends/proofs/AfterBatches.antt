@@ -117,6 +117,7 @@ still_stands_with core batches legs x len closed noted begun =
             legal = x.holds.legal;
             fields = same_batches core core.topology core.journal.steps batches legs x.holds.fields len closed noted begun;
             room = record { steps = x.holds.room.steps; rows = x.holds.room.rows; queues = x.holds.room.queues; ends = x.holds.room.ends };
+            log = x.holds.log;
           };
       unowed = x.unowed;
     }

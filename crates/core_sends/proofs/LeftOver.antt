@@ -67,19 +67,19 @@ whole zero xs = refl
 whole (suc k) [] = refl
 whole (suc k) (x ∷ xs) = ap (λ ys. x ∷ ys) (whole k xs)
 
-short_take : {A : Type 0} (size : ℕ) (xs : List A) → take (min size (length xs)) xs ≡ take size xs
-short_take size xs = by (cases_lt size (length xs))
+-- a part up to a size that is at most the length is the part up to the size, where the length makes none
+short : {B : Type 0} (part : ℕ → B) (size n : ℕ) → (n ≤ size → part n ≡ part size) → part (min size n) ≡ part size
+short part size n whole = by (cases_lt size n)
   where
-    by : (size < length xs) ⊎ (length xs ≤ size) → take (min size (length xs)) xs ≡ take size xs
-    by (inl low) = ap (λ k. take k xs) (omega arith)
-    by (inr high) = ap (λ k. take k xs) (omega arith) ∙ (take_all (length xs) xs (omega arith) ∙ sym (take_all size xs high))
+    by : (size < n) ⊎ (n ≤ size) → part (min size n) ≡ part size
+    by (inl low) = ap part (omega arith)
+    by (inr high) = ap part (omega arith) ∙ whole high
+
+short_take : {A : Type 0} (size : ℕ) (xs : List A) → take (min size (length xs)) xs ≡ take size xs
+short_take size xs = short (λ k. take k xs) size (length xs) (λ high. take_all (length xs) xs (omega arith) ∙ sym (take_all size xs high))
 
 short_drop : {A : Type 0} (size : ℕ) (xs : List A) → drop (min size (length xs)) xs ≡ drop size xs
-short_drop size xs = by (cases_lt size (length xs))
-  where
-    by : (size < length xs) ⊎ (length xs ≤ size) → drop (min size (length xs)) xs ≡ drop size xs
-    by (inl low) = ap (λ k. drop k xs) (omega arith)
-    by (inr high) = ap (λ k. drop k xs) (omega arith) ∙ (drop_all (length xs) xs (omega arith) ∙ sym (drop_all size xs high))
+short_drop size xs = short (λ k. drop k xs) size (length xs) (λ high. drop_all (length xs) xs (omega arith) ∙ sym (drop_all size xs high))
 
 -- what is over the size
 pub over_is : (size : Option ℕ) (keep : Keep) (ns : List ℕ) → over_of size keep ns ≡ over_size size keep ns

@@ -23,3 +23,4 @@ pub mod BatchesSent
 pub mod Served
 pub mod Turns
 pub mod AfterBatches
+pub mod LoneLog

@@ -85,6 +85,7 @@ roomy_stands core inboxes same long x =
             legal = x.holds.legal;
             fields = roomy_fields core core.topology core.journal.steps inboxes same long x.holds.fields;
             room = record { steps = x.holds.room.steps; rows = x.holds.room.rows; queues = x.holds.room.queues; ends = x.holds.room.ends };
+            log = x.holds.log;
           };
       unowed = x.unowed;
     }

@@ -1,6 +1,6 @@
 -- The batches at the front of a batcher's queue that its dispatch serves.
 use Rattle.std.proofs.Common.{◌≡◌, ℕ, ◌-◌, ◌≤◌, List, [], ◌∷◌, ◌++◌, map, length, take, drop, All, Bool, true, false, refl, ap, sym, ◌∙◌, subst, arith, Some, None, Option, is_some}
-use Rattle.std.specs.Prelude.{if◌then◌else◌, ◌&&◌, not, filter, slice_get, option_map}
+use Rattle.std.specs.Prelude.{if◌then◌else◌, ◌&&◌, not, filter, slice_get, option_map, ◌==◌, cond}
 use Rattle.std.proofs.lemmas.List.{take_at, drop_at, length-append}
 use Rattle.pipe_types.specs.declared.numbers.StageNo.{StageNo}
 use Rattle.pipe_types.specs.declared.topology.Topology.{Topology}
@@ -17,24 +17,28 @@ use Rattle.pipe_model.specs.Batches.{Batch}
 use Rattle.pipe_model.specs.History.{History, accepted, closed}
 use Rattle.pipe_model.specs.Legal.{is_legal}
 use Rattle.pipe_model.specs.Flow.{batch, view_of, waiting, deliveries, alone, served_by, picks_by, rooms_by, mark_in, is_batcher, is_empty, subs_of, among, kind_in, numbers_in, batch_waits_in}
-use Rattle.queue_laws.proofs.Apart.{Apart}
+use Rattle.queue_laws.proofs.Apart.{Apart, apart_kept}
 use Rattle.queue_laws.proofs.Batched.{batch_holds}
 use Rattle.queue_laws.proofs.Filters.{filter_each}
 use Rattle.queue_laws.proofs.Sounds.{fits}
-use Rattle.stage_laws.proofs.Bounds.{waiting_apart, waiting_within}
+use Rattle.stage_laws.proofs.Bounds.{waiting_apart, waiting_within, batch_least}
 use Rattle.message_ack.specs.Ends.{Ends}
 use Rattle.core_tables.specs.declared.rows.BatchRow.{BatchRow}
 use Rattle.core_laws.specs.Columns.{waiting_parts, part_of, is_broadcast, closed_numbers}
 use Rattle.core_state.specs.declared.state.Core.{Core}
 use Rattle.core_state.specs.Stands.{Fields}
-use Rattle.core_sends.specs.Batches.{not_sent, lone_of, numbers_of, closed_at, all_succeeded, all_marked, IsEndable}
+use Rattle.core_sends.specs.Batches.{not_sent, lone_of, numbers_of, closed_at, all_succeeded, all_marked, IsEndable, served_alone}
 use Rattle.core_sends.specs.Rooms.{served_first}
 use Rattle.core_sends.proofs.BatchesSent.{AreBegun, each_unsent, each_batch_waits, numbers_are, numbers_seen}
 use Rattle.core_sends.proofs.Front.{served_front, none_lone, past_front}
 use Rattle.core_sends.proofs.LeftOver.{take_map, drop_map, filter_map, back_apart}
-use Rattle.core_sends.proofs.Lone.{waits_inside, succeeded_alike, marked_alike}
+use Rattle.core_sends.proofs.Lone.{waits_inside, succeeded_alike, marked_alike, numbers_by}
 use Rattle.core_sends.proofs.Queued.{numbers_in_queue}
 use Rattle.core_sends.proofs.Sent.{pair, each_all}
+use Rattle.std.specs.List.{flat_map}
+use Rattle.queue_laws.proofs.Distinct.{itself}
+use Rattle.queue_laws.proofs.Alone.{IsAlone, alone_each}
+use Rattle.core_sends.specs.Losing.{numbers_in as unit_numbers}
 
 -- what waits in a stage that broadcasts begins with what is served
 front : (topology : Topology) (before : History) (s : StageNo) → is_broadcast (kind_in (spec_of topology s)) ≡ true
@@ -161,3 +165,57 @@ placed_alike old new same bs n (Some p) = ap Some (succeeded_alike (numbers_of n
 pub marked_rows : (old new : List BatchRow) → ((i : ℕ) → closed_at new i ≡ closed_at old i) → (bs : List ℕ) (mark n : ℕ) (o : Option ℕ) → option_map (all_marked (numbers_of new) bs mark n) o ≡ option_map (all_marked (numbers_of old) bs mark n) o
 marked_rows old new same bs mark n None = refl
 marked_rows old new same bs mark n (Some m) = ap Some (marked_alike (numbers_of new) (numbers_of old) bs mark n m (each_always (λ b. numbers_of new b ≡ numbers_of old b) (numbers_kept old new same) bs))
+
+-- none of the batches alone stands twice
+each_first : (P : ℕ → Type 0) (xs ys : List ℕ) → Each P (xs ++ ys) → Each P xs
+each_first P [] ys h = tt
+each_first P (x ∷ xs) ys h = (h.0, each_first P xs ys h.1)
+
+apart_first : (xs ys : List ℕ) → Apart itself (xs ++ ys) → Apart itself xs
+apart_first [] ys h = tt
+apart_first (x ∷ xs) ys h = (each_first (λ y. (x == y) ≡ false) xs ys h.0, apart_first xs ys h.1)
+
+pub alone_apart : (topology : Topology) (before : History) (s : StageNo) → IsSound topology → is_legal topology before ≡ true → Apart itself (alone topology before s)
+alone_apart topology before s sound h = by (is_broadcast (kind_in (spec_of topology s))) refl
+  where
+    served : List ℕ
+    served = served_by topology before (view_of topology before) s
+
+    either : (b : Bool) → Apart itself served → Apart itself (if b then filter (λ n. is_empty (subs_of (deliveries topology before s) n)) served else [])
+    either true a = apart_kept itself (λ n. is_empty (subs_of (deliveries topology before s) n)) served a
+    either false a = tt
+
+    by : (b : Bool) → is_broadcast (kind_in (spec_of topology s)) ≡ b → Apart itself (alone topology before s)
+    by false e = subst (Apart itself) (sym (none_lone topology before s e)) tt
+    by true e =
+        let f = front topology before s e in
+        either (is_batcher (spec_of topology s)) (apart_first served f.0 (subst (Apart itself) f.1 (waiting_apart topology before s (fits topology sound) h)))
+
+-- the code's batches alone have the messages of the journal's
+flat_alike : (f g : ℕ → List ℕ) (bs : List ℕ) → Each (λ b. f b ≡ g b) bs → flat_map f bs ≡ flat_map g bs
+flat_alike f g [] h = refl
+flat_alike f g (b ∷ bs) h = (λ i. h.0 i ++ flat_map f bs) ∙ ap (λ ns. g b ++ ns) (flat_alike f g bs h.1)
+
+lone_flat : (rows : List BatchRow) (legs : List (ℕ × Ends)) (units : List (ℕ × ℕ)) → served_alone rows legs units ≡ flat_map (numbers_of rows) (lone_of legs units)
+lone_flat rows legs [] = refl
+lone_flat rows legs (unit ∷ units) = by (not_sent legs unit.1) (lone_flat rows legs units)
+  where
+    by : (b : Bool) → served_alone rows legs units ≡ flat_map (numbers_of rows) (lone_of legs units)
+        → (if b then numbers_of rows unit.1 else []) ++ served_alone rows legs units
+        ≡ flat_map (numbers_of rows) (unit_numbers (cond b (unit ∷ filter (λ (u : ℕ × ℕ). not_sent legs u.1) units) (filter (λ (u : ℕ × ℕ). not_sent legs u.1) units)))
+    by true rest = ap (λ ns. numbers_of rows unit.1 ++ ns) rest
+    by false rest = rest
+
+pub served_is : (core : Core) (topology : Topology) (before : History) (s : StageNo) (rows : List BatchRow) (legs : List (ℕ × Ends)) (units : List (ℕ × ℕ)) → Fields core topology before → is_legal topology before ≡ true
+    → ((i : ℕ) → closed_at rows i ≡ closed_at core.batches.items i) → lone_of legs units ≡ alone topology before s
+    → served_alone rows legs units ≡ flat_map (numbers_by topology before) (alone topology before s)
+served_is core topology before s rows legs units x h same those =
+    lone_flat rows legs units
+    ∙ (ap (flat_map (numbers_of rows)) those
+    ∙ flat_alike (numbers_of rows) (numbers_by topology before) (alone topology before s)
+    (each_weaker (IsAlone topology before s) (λ b. numbers_of rows b ≡ numbers_by topology before b)
+    (λ b a. numbers_kept core.batches.items rows same b ∙ numbers_are core topology before b x (batch_least topology before b (there (batch topology before b) a.waits))) (alone topology before s) (alone_each topology before s)))
+  where
+    there : (o : Option Batch) → batch_waits_in s o ≡ true → is_some o ≡ true
+    there None w = cc
+    there (Some y) w = refl

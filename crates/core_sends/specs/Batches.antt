@@ -1,6 +1,10 @@
 -- What a dispatch of a batcher notes of the batches that it sends.
 use Rattle.std.specs.Prelude.{ℕ, ◌≤◌, All, filter, if◌then◌else◌, ◌-◌, Bool, not, List, [], ◌∷◌, length, Option, Some, None, option_map, is_some, slice_get}
+use Rattle.std.specs.List.{flat_map}
+use Rattle.pipe_types.specs.declared.numbers.StageNo.{StageNo}
 use Rattle.pipe_types.specs.declared.numbers.SubNo.{SubNo}
+use Rattle.pipe_journal.specs.declared.acked.AckRow.{AckRow}
+use Rattle.core_laws.specs.Acked.{ack_row}
 use Rattle.message_ack.specs.Ends.{Ends, sent_in, with_leg}
 use Rattle.core_tables.specs.declared.rows.BatchRow.{BatchRow}
 use Rattle.pipe_model.specs.Taken.{Closed}
@@ -64,6 +68,18 @@ all_marked numbers (b ∷ bs) mark n old = all_marked numbers bs mark n (marked 
 -- the numbers of those of these units that were not sent
 abbrev pub lone_of : List (ℕ × Ends) → List (ℕ × ℕ) → List ℕ
 lone_of legs units = numbers_in (filter (λ unit. not_sent legs unit.1) units)
+
+-- the messages of the batch, where it was not sent
+abbrev pub alone_in : List BatchRow → List (ℕ × Ends) → ℕ × ℕ → List ℕ
+alone_in rows legs unit = if not_sent legs unit.1 then numbers_of rows unit.1 else []
+
+-- the messages of those of these batches that were not sent
+abbrev pub served_alone : List BatchRow → List (ℕ × Ends) → List (ℕ × ℕ) → List ℕ
+served_alone rows legs units = flat_map (alone_in rows legs) units
+
+-- the row of a message that is a success
+abbrev pub success : List StageNo → (at : ℕ) → ℕ → Option AckRow
+success producers at n = ack_row (Some (Acked Successful)) (slice_get producers (n - 1)) at n
 
 -- the batch has a row, and its messages have places
 pub record IsEndable (rows : List BatchRow) (count : ℕ) (unit : ℕ × ℕ) : Type 0 where

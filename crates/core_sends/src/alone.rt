@@ -1,15 +1,16 @@
 //! The batches at the front of a batcher's queue that a dispatch serves, and those among them that are sent nowhere.
 
-ghost use Rattle.std.specs.Prelude.{◌≡◌, ℕ, suc, ◌+◌, ◌≤◌, length, All, true, drop, take, filter, option_map, slice_get, Some, vec_capacity};
+ghost use Rattle.std.specs.{Prelude.{◌≡◌, ℕ, suc, ◌+◌, ◌++◌, ◌≤◌, ◌<◌, [], ◌∷◌, length, All, true, drop, take, filter, option_map, slice_get, Some, vec_capacity}, List.{filter_map}};
 ghost use Rattle.core_tables.specs.Tables.{spare_in};
-ghost use Rattle.core_sends.specs.{Losing.{marked}, Batches.{not_sent, numbers_of, succeeded, all_succeeded, all_marked, lone_of, IsEndable}};
+ghost use Rattle.core_sends.specs.{Losing.{marked}, Batches.{not_sent, numbers_of, succeeded, all_succeeded, all_marked, lone_of, alone_in, served_alone, success, IsEndable}};
 
 use crate::leaving::keep_unsent;
-use core_state::settles::mark_all;
+use core_state::settles::{mark_all, note_row};
 use core_tables::rows::BatchRow;
 use message_ack::Legs;
+use pipe_journal::Journal;
 use pipe_types::message::{Outcome, Place};
-use pipe_types::numbers::BatchNo;
+use pipe_types::numbers::{BatchNo, StageNo};
 use std::collections::VecDeque;
 
 /// Notes a success for each of these messages.
@@ -106,4 +107,83 @@ pub(crate) fn leave_batches(
         pass_served(queue, places, settled, batches, legs, mark);
     }
     keep_unsent(queue, legs, first.saturating_sub(served));
+}
+
+/// Notes the messages of the first so many batches of the queue that were not sent in the journal's log, as successes by the step
+/// at that place.
+pub(crate) fn note_alone(
+    journal: &mut Journal,
+    producers: &[StageNo],
+    queue: &VecDeque<(u32, u32)>,
+    batches: &Vec<BatchRow>,
+    legs: &Legs,
+    served: usize,
+    mark: u64,
+)
+    requires served { served ≤ length queue.now.items }
+    requires endable { All (IsEndable batches.now.items (length producers.now)) queue.now.items }
+    requires room { length journal.old.acked.rows + length (served_alone batches.now.items legs.now (take served queue.now.items)) ≤ journal.old.acked.room }
+    ensures noted { journal.new.acked.rows ≡ journal.old.acked.rows ++ filter_map (success producers.now mark) (served_alone batches.now.items legs.now (take served queue.now.items)) }
+    ensures same_room { journal.new.acked.room ≡ journal.old.acked.room }
+    ensures same_steps { journal.new.steps ≡ journal.old.steps }
+    ensures same_spare { journal.new.spare ≡ journal.old.spare }
+{
+    for i in 0..served {
+        note_batch(journal, producers, queue[i], batches, legs, mark);
+    }
+}
+
+/// Notes the messages of the batch as successes in the journal's log, where it was not sent.
+fn note_batch(
+    journal: &mut Journal,
+    producers: &[StageNo],
+    unit: (u32, u32),
+    batches: &Vec<BatchRow>,
+    legs: &Legs,
+    mark: u64,
+)
+    requires endable { IsEndable batches.now.items (length producers.now) unit }
+    requires room { length journal.old.acked.rows + length (alone_in batches.now.items legs.now unit) ≤ journal.old.acked.room }
+    ensures noted { journal.new.acked.rows ≡ journal.old.acked.rows ++ filter_map (success producers.now mark) (alone_in batches.now.items legs.now unit) }
+    ensures same_room { journal.new.acked.room ≡ journal.old.acked.room }
+    ensures same_steps { journal.new.steps ≡ journal.old.steps }
+    ensures same_spare { journal.new.spare ≡ journal.old.spare }
+{
+    if legs.is_sent(BatchNo(unit.1)) {
+        return;
+    }
+    note_successes(
+        journal,
+        producers,
+        &batches[(unit.1 - 1) as usize].numbers,
+        mark,
+    );
+}
+
+/// Notes these messages as successes in the journal's log.
+fn note_successes(journal: &mut Journal, producers: &[StageNo], numbers: &[u32], mark: u64)
+    requires within { All (λ n. (1 ≤ n) × (n ≤ length producers.now)) numbers.now }
+    requires room { length journal.old.acked.rows + length numbers.now ≤ journal.old.acked.room }
+    ensures noted { journal.new.acked.rows ≡ journal.old.acked.rows ++ filter_map (success producers.now mark) numbers.now }
+    ensures same_room { journal.new.acked.room ≡ journal.old.acked.room }
+    ensures same_steps { journal.new.steps ≡ journal.old.steps }
+    ensures same_spare { journal.new.spare ≡ journal.old.spare }
+{
+    for no in numbers {
+        note_success(journal, producers, *no, mark);
+    }
+}
+
+/// Notes the message as a success in the journal's log.
+fn note_success(journal: &mut Journal, producers: &[StageNo], no: u32, mark: u64)
+    requires least { 1 ≤ no }
+    requires room { length journal.old.acked.rows < journal.old.acked.room }
+    ensures noted { journal.new.acked.rows ≡ journal.old.acked.rows ++ filter_map (success producers.now mark) (no ∷ []) }
+    ensures same_room { journal.new.acked.room ≡ journal.old.acked.room }
+    ensures same_steps { journal.new.steps ≡ journal.old.steps }
+    ensures same_spare { journal.new.spare ≡ journal.old.spare }
+{
+    let place = Place::Acked(Outcome::Successful);
+    let others = no as usize - 1;
+    note_row(journal, Some(&place), producers.get(others), no, mark);
 }

@@ -7,7 +7,7 @@ ghost use Rattle.core_tables.specs.Tables.{named, spare_in, HasRoom};
 ghost use Rattle.core_state.specs.Stands.{Holds, Stands};
 ghost use Rattle.core_sends.specs.{Losing.{still_waits, left_in, numbers_in, over_of, kept_of, lost_over_size, marked}, Rooms.{planned, served_first}};
 
-use crate::alone::leave_batches;
+use crate::alone::{leave_batches, note_alone};
 use crate::batches::begin_all;
 use crate::counting::count_all;
 use crate::leaving::{keep_waiting, reach};
@@ -157,6 +157,15 @@ fn send_batches(
     let mut units = sent;
     name_units(&mut units, &core.waiting[at]);
     begin_all(&mut core.legs, &mut core.batches, &units)?;
+    note_alone(
+        &mut core.journal,
+        &core.producers,
+        &core.waiting[at],
+        &core.batches,
+        &core.legs,
+        served,
+        mark,
+    );
     deliver_all(&mut core.inboxes, &units);
     count_all(&mut core.subs, &units);
     leave_batches(

@@ -34,7 +34,7 @@ use Rattle.core_state.specs.declared.tables.Tables.{Tables}
 use Rattle.stage_laws.proofs.Records.{fetches_none}
 use Rattle.core_laws.proofs.Due.{due_within}
 use Rattle.core_state.specs.Room.{Roomy}
-use Rattle.core_state.specs.Stands.{Fields, AreSized, AreSet, Stands, opens_in, child_of, closed_seen, limit_seen}
+use Rattle.core_state.specs.Stands.{Fields, AreSized, AreSet, KeepsLog, Stands, opens_in, child_of, closed_seen, limit_seen}
 use Rattle.pipe_types.specs.declared.topology.RestartLimit.{RestartLimit as Limit}
 use Rattle.restart_core.specs.Restarts.{RestartLimit, Remembers}
 use Rattle.core_state.specs.Begun.{new_stage, new_post, no_sub, batches_of, no_batches, slots_of, children_of, no_children, unmade}
@@ -192,10 +192,10 @@ new_settings topology tables journal places settled producers contents batches l
 
 pub new_stands : (topology : Topology) (tables : Tables) (journal : Recorded) (places : Vec Place Global) (settled : Vec ℕ Global) (producers : Vec StageNo Global)
     (contents : Vec ContentRow Global) (batches : Vec BatchRow Global) (legs : List (ℕ × Ends)) (alloc : Global)
-    → IsSound topology → AreNew topology tables → journal.steps ≡ [] → 1088 ≤ journal.spare
+    → IsSound topology → AreNew topology tables → journal.steps ≡ [] → 1088 ≤ journal.spare → journal.acked.rows ≡ []
     → places.items ≡ [] → settled.items ≡ [] → producers.items ≡ [] → contents.items ≡ [] → batches.items ≡ [] → ((b : ℕ) → sent_in legs b ≡ None)
     → Stands (begin_with topology tables journal places settled producers contents batches legs alloc)
-new_stands topology tables journal places settled producers contents batches legs alloc sound x empty many no_place no_mark no_producer no_content no_batch no_leg =
+new_stands topology tables journal places settled producers contents batches legs alloc sound x empty many no_row no_place no_mark no_producer no_content no_batch no_leg =
     record {
       holds =
           record {
@@ -203,6 +203,7 @@ new_stands topology tables journal places settled producers contents batches leg
             legal = ap (is_legal topology) empty;
             fields = subst (λ (h : History). Fields (begin_with topology tables journal places settled producers contents batches legs alloc) topology h) (sym empty) fields;
             room = subst (λ (h : History). Roomy (begin_with topology tables journal places settled producers contents batches legs alloc) topology h) (sym empty) room;
+            log = subst (λ (h : History). KeepsLog topology h journal.acked) (sym empty) (record { rows = no_row; room = omega (arith, fetches_none topology) });
           };
       unowed = ap (owed topology) empty;
     }

@@ -15,7 +15,8 @@ use Rattle.core_tables.specs.Tables.{items_in, queue_at, spare_at, spare_in}
 use Rattle.core_tables.proofs.Tables.{same_or_other, get-set_same, get-set_other, queue-set_same, queue-set_other}
 use Rattle.core_state.specs.declared.state.Core.{Core}
 use Rattle.core_state.specs.Room.{Roomy}
-use Rattle.core_state.specs.Stands.{Fields, Stands}
+use Rattle.core_state.specs.Stands.{Fields, KeepsLog, Stands}
+use Rattle.core_state.proofs.Steps.{log_roomier}
 use Rattle.core_state.proofs.Parts.{Part, ContentsAre, ContentsLen, PlacesAre, PlacesLen, ProducersAre, ProducersLen, SettledAre, SettledLen, WaitingAre, WaitingLen, Says, unchanged, fields_of}
 
 -- tables with the same rows, and no less room
@@ -66,8 +67,8 @@ same_room core topology before p m r c w j x same spare =
     }
 
 pub roomy : (core : Core) (p : Vec Place Global) (m : Vec ℕ Global) (r : Vec StageNo Global) (c : Vec ContentRow Global) (w : Vec (VecDeque (ℕ × ℕ) Global) Global) (j : Recorded)
-    → Stands core → SameRows core p m r c w → j.steps ≡ core.journal.steps → core.journal.spare ≤ j.spare → Stands (record core { journal = j; places = p; settled = m; producers = r; contents = c; waiting = w })
-roomy core p m r c w j x same steps spare =
+    → Stands core → SameRows core p m r c w → j.steps ≡ core.journal.steps → core.journal.spare ≤ j.spare → j.acked.rows ≡ core.journal.acked.rows → core.journal.acked.room ≤ j.acked.room → Stands (record core { journal = j; places = p; settled = m; producers = r; contents = c; waiting = w })
+roomy core p m r c w j x same steps spare rows log_room =
     record {
       holds =
           record {
@@ -77,6 +78,7 @@ roomy core p m r c w j x same steps spare =
                 (same_fields core core.topology core.journal.steps p m r c w j x.holds.fields same);
             room = subst (λ (h : History). Roomy (record core { journal = j; places = p; settled = m; producers = r; contents = c; waiting = w }) core.topology h) (sym steps)
                 (same_room core core.topology core.journal.steps p m r c w j x.holds.room same spare);
+            log = subst (λ (h : History). KeepsLog core.topology h j.acked) (sym steps) (log_roomier core.topology core.journal.steps core.journal.acked j.acked x.holds.log rows log_room);
           };
       unowed = ap (owed core.topology) steps ∙ x.unowed;
     }

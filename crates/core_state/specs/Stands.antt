@@ -24,6 +24,9 @@ use Rattle.core_tables.specs.declared.rows.BatchRow.{BatchRow}
 use Rattle.core_tables.specs.Tables.{queue_at, list_at}
 use Rattle.core_tables.specs.Rows.{post_at}
 use Rattle.core_laws.specs.Columns.{running, stage_row, post_row, came, waiting_parts, open_batches, child_row, mark, content_row, sent_on, ends_in_progress}
+use Rattle.core_laws.specs.Due.{booked}
+use Rattle.pipe_journal.specs.Recorded.{AckLog}
+use Rattle.pipe_journal.specs.Acked.{IsLog}
 use Rattle.core_state.specs.declared.state.Core.{Core}
 use Rattle.core_state.specs.Room.{Roomy}
 use Rattle.pipe_model.specs.Standing.{gathered_in}
@@ -114,12 +117,18 @@ pub record Fields (core : Core) (topology : Topology) (before : History) : Type 
   pub restarts : (l : ℕ) (held : RestartLimit) → slice_get core.restarts.items l ≡ Some held → Remembers held (restart_times topology before l)
   pub totals : core.totals ≡ totals_of topology before
 
--- the topology is sound, the journal is legal, the fields are the journal's, and the room is there; a step may be owed
+-- the journal's log is that of what the journal acknowledges, and has room for each record that is accepted or that fetches may bring
+pub record KeepsLog (topology : Topology) (before : History) (log : AckLog) : Type 0 where
+  pub rows : IsLog topology before log.rows
+  pub room : booked topology before ≤ log.room
+
+-- the topology is sound, the journal is legal, the fields and the log are the journal's, and the room is there; a step may be owed
 pub record Holds (core : Core) : Type 0 where
   pub sound : IsSound core.topology
   pub legal : is_legal core.topology core.journal.steps ≡ true
   pub fields : Fields core core.topology core.journal.steps
   pub room : Roomy core core.topology core.journal.steps
+  pub log : KeepsLog core.topology core.journal.steps core.journal.acked
 
 -- and no step is owed
 pub record Stands (core : Core) : Type 0 where

@@ -27,6 +27,7 @@ const NO_TOTALS: Totals = Totals {
 fn new_journal(alloc: Global) -> Result<Journal, AllocError>
     ensures empty { IfOk result (λ journal. journal.steps ≡ []) }
     ensures room { IfOk result (λ journal. 1088 ≤ journal.spare) }
+    ensures none { IfOk result (λ journal. journal.acked.rows ≡ []) }
 {
     let mut journal = Journal::new(alloc);
     journal.reserve(MOST_DUE)?;

@@ -1,11 +1,14 @@
 //! How the messages of a batch end that is settled.
 
-ghost use Rattle.std.specs.{Prelude.{◌≡◌, ◌≢◌, ℕ, suc, ◌≤◌, length, All, slice_get, option_map, unwrap_or, vec_capacity}, List.{AllPairs}};
+ghost use Rattle.std.specs.{Prelude.{◌≡◌, ◌≢◌, ℕ, suc, ◌+◌, ◌++◌, ◌≤◌, ◌<◌, length, All, slice_get, option_map, option_copied, unwrap_or, vec_capacity, ◌∷◌, []}, List.{AllPairs, filter_map, cons_option}};
 ghost use Rattle.pipe_types.specs.declared.message.Outcome.TheVariants.{Successful};
-ghost use Rattle.core_state.specs.Settles.{end_at, ended_from, marked};
+ghost use Rattle.core_laws.specs.Acked.{ack_row};
+ghost use Rattle.core_state.specs.Settles.{end_at, ended_from, marked, noted};
 
 use message_ack::Settled;
+use pipe_journal::{AckRow, Journal};
 use pipe_types::message::{Outcome, OutcomeList, Place};
+use pipe_types::numbers::{MsgNo, StageNo};
 
 /// Notes how each message of the batch ended.
 pub fn settle_all(places: &mut Vec<Place>, numbers: &[u32], settled: &Settled)
@@ -52,5 +55,72 @@ pub fn mark_all(marks: &mut Vec<u64>, numbers: &[u32], mark: u64)
     for no in numbers {
         let at = (*no - 1) as usize;
         marks[at] = mark;
+    }
+}
+
+/// Notes those of these messages that are acknowledged in the journal's log, as by the step at that place.
+pub fn note_acked(
+    journal: &mut Journal,
+    places: &[Place],
+    producers: &[StageNo],
+    numbers: &[u32],
+    at: u64,
+)
+    requires least { All (λ n. 1 ≤ n) numbers.now }
+    requires room { length journal.old.acked.rows + length numbers.now ≤ journal.old.acked.room }
+    ensures noted { journal.new.acked.rows ≡ journal.old.acked.rows ++ filter_map (noted places.now producers.now at) numbers.now }
+    ensures same_room { journal.new.acked.room ≡ journal.old.acked.room }
+    ensures same_steps { journal.new.steps ≡ journal.old.steps }
+    ensures same_spare { journal.new.spare ≡ journal.old.spare }
+{
+    for no in numbers {
+        note_one(journal, places, producers, *no, at);
+    }
+}
+
+/// Notes the message in the journal's log, where it is acknowledged, as by the step at that place.
+pub fn note_one(journal: &mut Journal, places: &[Place], producers: &[StageNo], no: u32, at: u64)
+    requires least { 1 ≤ no }
+    requires room { length journal.old.acked.rows < journal.old.acked.room }
+    ensures noted { journal.new.acked.rows ≡ journal.old.acked.rows ++ filter_map (noted places.now producers.now at) (no ∷ []) }
+    ensures same_room { journal.new.acked.room ≡ journal.old.acked.room }
+    ensures same_steps { journal.new.steps ≡ journal.old.steps }
+    ensures same_spare { journal.new.spare ≡ journal.old.spare }
+{
+    let others = no as usize - 1;
+    note_row(journal, places.get(others), producers.get(others), no, at);
+}
+
+/// Notes the message that stands so in the journal's log, where it is acknowledged.
+pub fn note_row(
+    journal: &mut Journal,
+    place: Option<&Place>,
+    producer: Option<&StageNo>,
+    no: u32,
+    at: u64,
+)
+    requires { length journal.old.acked.rows < journal.old.acked.room }
+    ensures noted { journal.new.acked.rows ≡ journal.old.acked.rows ++ cons_option (ack_row (option_copied place.entry) (option_copied producer.entry) at no) [] }
+    ensures same_room { journal.new.acked.room ≡ journal.old.acked.room }
+    ensures same_steps { journal.new.steps ≡ journal.old.steps }
+    ensures same_spare { journal.new.spare ≡ journal.old.spare }
+{
+    if let Some(row) = row_of(place, producer, no, at) {
+        journal.note_acked(row);
+    }
+}
+
+/// The row of the message that stands so, where it is acknowledged.
+fn row_of(place: Option<&Place>, producer: Option<&StageNo>, no: u32, at: u64) -> Option<AckRow>
+    ensures { result ≡ ack_row (option_copied place.entry) (option_copied producer.entry) at no }
+{
+    match place? {
+        Place::Acked(outcome) => Some(AckRow {
+            no: MsgNo(no),
+            producer: *producer?,
+            successful: matches!(outcome, Outcome::Successful),
+            at,
+        }),
+        _ => None,
     }
 }

@@ -176,6 +176,7 @@ more_stands core c w e x more =
                   queues = λ t h. omega (arith, ap length (more.chunks t), more.queues_room t, x.holds.room.queues t h);
                   ends = λ t role out. omega (arith, more.ends_room t, x.holds.room.ends t role out);
                 };
+            log = x.holds.log;
           };
       unowed = x.unowed;
     }

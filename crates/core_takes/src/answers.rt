@@ -8,6 +8,7 @@ ghost use Rattle.core_takes.specs.Replies.{parted, take_in};
 
 use crate::replies::{answer_all, clear_chunk, count_taken, mark_all, note_all, queue_passed};
 use core_state::Core;
+use core_state::settles::note_acked;
 use core_tables::posts::come_home;
 use core_tables::rows::StageRow;
 use pipe_types::message::ReplyList;
@@ -61,6 +62,13 @@ fn answered(core: &mut Core, stage: StageNo, replies: ReplyList)
         passes_on,
         chunk,
         replies.as_slice(),
+    );
+    note_acked(
+        &mut core.journal,
+        &core.places,
+        &core.producers,
+        chunk,
+        entry,
     );
     note_all(&mut core.contents, entry, replies.as_slice());
     queue_passed(

@@ -104,15 +104,14 @@ rose_after x y z le (inr full) = inr full
 
 -- ---- by what ended the opening
 
-pub failed_by : (feeds : Feeds) (T : Type 0) (topology : Topology) (n at : ℕ) (spec : StageSpec) (u : Unopened) (a b c : EdgesSeen) (start mid now : ℕ → Option BodySeen) → slice_get topology.stages n ≡ Some spec
-    → Asks (calls_of feeds (take n topology.stages)) a b → AreOpened feeds topology n a start now → OpensOne {T = T} (supplied feeds spec) at (Err u) b c mid now → IfFailed u (λ name. IsFailed feeds topology name a c start now)
-failed_by feeds T topology n at spec (Failed name) a b c start mid now here asks opened one = record { at = n; spec = spec; here = here; middle = b; asks = asks; failed = one; bodies = opened }
-failed_by feeds T topology n at spec NoMemory a b c start mid now here asks opened one = tt
+-- opening ended at a stage, since a call of it failed, or for want of memory
+abbrev pub EndsBy : Feeds → Topology → Unopened → (a c : EdgesSeen) → (start now : ℕ → Option BodySeen) → Type 0
+EndsBy feeds topology u a c start now = IfFailed u (λ name. IsFailed feeds topology name a c start now) × IfCutOff u (IsCutOff feeds topology a c start now)
 
-pub cut_off_by : (feeds : Feeds) (T : Type 0) (topology : Topology) (n at : ℕ) (spec : StageSpec) (u : Unopened) (a b c : EdgesSeen) (start mid now : ℕ → Option BodySeen) → slice_get topology.stages n ≡ Some spec
-    → Asks (calls_of feeds (take n topology.stages)) a b → AreOpened feeds topology n a start now → OpensOne {T = T} (supplied feeds spec) at (Err u) b c mid now → IfCutOff u (IsCutOff feeds topology a c start now)
-cut_off_by feeds T topology n at spec (Failed name) a b c start mid now here asks opened one = tt
-cut_off_by feeds T topology n at spec NoMemory a b c start mid now here asks opened one = record { at = n; spec = spec; here = here; middle = b; asks = asks; cut = one; bodies = opened }
+pub ends_by : (feeds : Feeds) (T : Type 0) (topology : Topology) (n at : ℕ) (spec : StageSpec) (u : Unopened) (a b c : EdgesSeen) (start mid now : ℕ → Option BodySeen) → slice_get topology.stages n ≡ Some spec
+    → Asks (calls_of feeds (take n topology.stages)) a b → AreOpened feeds topology n a start now → OpensOne {T = T} (supplied feeds spec) at (Err u) b c mid now → EndsBy feeds topology u a c start now
+ends_by feeds T topology n at spec (Failed name) a b c start mid now here asks opened one = (record { at = n; spec = spec; here = here; middle = b; asks = asks; failed = one; bodies = opened }, tt)
+ends_by feeds T topology n at spec NoMemory a b c start mid now here asks opened one = (tt, record { at = n; spec = spec; here = here; middle = b; asks = asks; cut = one; bodies = opened })
 
 -- ---- one stage
 

@@ -1,3 +1,4 @@
+pub mod Seeing
 pub mod Gating
 pub mod Openings
 pub mod Returns

@@ -1,11 +1,12 @@
 -- What openings add.
-use Rattle.std.proofs.Common.{◌≡◌, Bool, true, false, ℕ, zero, suc, ◌+◌, ◌*◌, ◌≤◌, ◌<◌, List, [], ◌∷◌, ◌++◌, refl, ap, sym, ◌∙◌, subst, inl, inr, arith, add-one, length, take, get_or}
+use Rattle.std.proofs.Common.{◌≡◌, Bool, true, false, ℕ, zero, suc, ◌+◌, ◌*◌, ◌≤◌, ◌<◌, List, [], ◌∷◌, ◌++◌, refl, ap, sym, ◌∙◌, subst, inl, inr, arith, length, take, get_or}
 use Rattle.std.specs.Prelude.{◌⊎◌, slice_get, ◌==◌, ◌&&◌, nat_le, Option, Some, None, Ok, Err, IsSome, if◌then◌else◌}
 use Rattle.std.specs.List.{flat_map}
 use Rattle.std.proofs.lemmas.List.{append-nil, append_assoc}
 use Rattle.std.proofs.lemmas.Option.{slice_get_read}
 use Rattle.std.proofs.lemmas.Bool.{eqb-true, eqb-false, eq-eqb, ne_eqb, le-leb, lt-leb}
 use Rattle.std.proofs.lemmas.Bool.Decides.{nat_tests}
+pub use Rattle.pipe_laws.proofs.Lists.{take_next}
 use Rattle.pipe_laws.proofs.Tests.{same_stage-true}
 use Rattle.pipe_types.specs.Numbers.{post}
 use Rattle.pipe_types.specs.Stages.{spec_of}
@@ -188,14 +189,6 @@ unslotted feeds false y spec e = refl
 
 at_most_step : (m n : ℕ) → ¬ (m ≡ n + 1) → nat_le m (n + 1) ≡ nat_le m n
 at_most_step m n other = grind (arith, nat_tests)
-
-take_suc : {A : Type 0} (xs : List A) (n : ℕ) (x : A) → slice_get xs n ≡ Some x → take (suc n) xs ≡ take n xs ++ x ∷ []
-take_suc [] n x e = cc
-take_suc (y ∷ xs) zero x e = let is : y ≡ x = cc in ap (λ z. z ∷ []) is
-take_suc (y ∷ xs) (suc n) x e = ap (λ z. y ∷ z) (take_suc xs n x e)
-
-pub take_next : {A : Type 0} (xs : List A) (n : ℕ) (x : A) → slice_get xs n ≡ Some x → take (n + 1) xs ≡ take n xs ++ x ∷ []
-take_next xs n x e = rw add-one (take_suc xs n x e)
 
 pub flat_map_next : {A B : Type 0} (f : A → List B) (xs : List A) (x : A) → flat_map f (xs ++ x ∷ []) ≡ flat_map f xs ++ f x
 flat_map_next f [] x = append-nil (f x)

@@ -1,11 +1,11 @@
 -- Steps that answer another job, or none.
-use Rattle.std.proofs.Common.{◌≡◌, true, false, ap, sym, ◌∙◌, subst, Option}
+use Rattle.std.proofs.Common.{◌≡◌, true, false, ◌∙◌, subst, Option}
 use Rattle.std.specs.Prelude.{◌≢◌}
 use Rattle.std.proofs.lemmas.Bool.{false_from_ne_true}
 use Rattle.pipe_types.specs.declared.numbers.Post.{Post}
 use Rattle.pipe_types.specs.declared.step.Step.{Step}
 use Rattle.pipe_types.specs.declared.topology.Topology.{Topology}
-use Rattle.pipe_types.specs.Numbers.{stage, post, same_stage, same_post}
+use Rattle.pipe_types.specs.Numbers.{stage, post, same_post}
 use Rattle.pipe_types.specs.Sound.{IsSound}
 use Rattle.pipe_model.specs.History.{History}
 use Rattle.pipe_model.specs.Posts.{answers}
@@ -15,31 +15,18 @@ use Rattle.stage_bodies.specs.Jobs.{IsDone}
 use Rattle.stage_bodies.specs.Posts.{step_of}
 use Rattle.stage_bodies.specs.declared.job.Answer.{Answer}
 use Rattle.stage_bodies.specs.declared.job.Job.{Job}
-use Rattle.stage_bodies.specs.declared.job.Outcome.{Outcome as Came}
-use Rattle.stage_bodies.specs.declared.job.Outcome.TheVariants as came
 use Rattle.body_laws.specs.Keeps.{is_silent}
 use Rattle.body_laws.specs.Lates.{late_step}
 use Rattle.body_laws.proofs.Posts.{out_has_post, same_post-true}
 use Rattle.body_laws.proofs.Jobs.{silent_quietly}
-use Rattle.body_laws.proofs.Laws.{NamesSlot, names_slot, at_end}
+use Rattle.body_laws.proofs.Laws.{answers_only, names_slot}
 use Rattle.job_laws.specs.Away.{IsAway, IsAnswerTo}
-
-first_is : (p q : Post) → p.slot ≡ 0 → same_post q (post p.stage 0) ≡ true → q ≡ p
-first_is p q first h = same_post-true q (post p.stage 0) h ∙ ap (post p.stage) (sym first)
-
-answered_is : (p q : Post) (o : Came) → NamesSlot p o → answers (step_of p o) q ≡ true → q ≡ p
-answered_is p q (came.Records records) first h = first_is p q first h
-answered_is p q came.NotYet first h = first_is p q first h
-answered_is p q (came.Ended how) first h = first_is p q first (at_end (same_stage p.stage (stage 0)) (same_post q (post p.stage 0)) h)
-answered_is p q (came.Replies replies) first h = first_is p q first h
-answered_is p q (came.Wrote bytes end) first h = first_is p q first h
-answered_is p q (came.Reply reply) first h = same_post-true q p h
 
 pub one_answered : (topology : Topology) (before : History) (opened : Option BodySeen) (job : Job) (answer : Answer) (old new : BodySeen) (other : Post) → IsAway topology before opened job old → IsAnswerTo job answer → IsDone job.work answer.outcome old new → other ≢ job.post
     → (answers (step_of answer.post answer.outcome) other ≡ false) × (answers (late_step answer.post answer.incarnation answer.outcome) other ≡ false)
 one_answered topology before opened job answer old new other away to done apart = (
   false_from_ne_true (answers (step_of answer.post answer.outcome) other)
-      (λ h. apart (answered_is job.post other answer.outcome (names_slot topology before job.post job.work answer.outcome old new away.work done) (subst (λ p. answers (step_of p answer.outcome) other ≡ true) to.post h))),
+      (λ h. apart (answers_only job.post other answer.outcome (names_slot topology before job.post job.work answer.outcome old new away.work done) (subst (λ p. answers (step_of p answer.outcome) other ≡ true) to.post h))),
   false_from_ne_true (same_post other answer.post) (λ h. apart (same_post-true other answer.post h ∙ to.post)),
 )
 

@@ -1,11 +1,9 @@
 -- Messages that run in a stage, until it answers or ends.
-use Rattle.std.proofs.Common.{◌≡◌, ℕ, ◌+◌, ◌-◌, ◌≤◌, List, [], ◌∷◌, Bool, true, false, refl, ap, sym, ◌∙◌, subst, inl, inr, Some, None, Option, arith}
-use Rattle.std.specs.Prelude.{◌⊎◌, if◌then◌else◌, ◌==◌, ◌&&◌, ◌||◌, nat_lt, option_map, is_some, slice_get}
+use Rattle.std.proofs.Common.{◌≡◌, ℕ, ◌+◌, ◌-◌, ◌≤◌, List, [], ◌∷◌, Bool, true, false, refl, ap, sym, ◌∙◌, subst, inl, inr, Some, None, Option}
+use Rattle.std.specs.Prelude.{◌⊎◌, if◌then◌else◌, ◌==◌, ◌&&◌, ◌||◌, option_map, is_some}
 use Rattle.std.specs.List.{filter_map, cons_option}
 use Rattle.std.proofs.lemmas.Bool.{false_from_ne_true}
-use Rattle.std.proofs.lemmas.Bool.Decides.{nat_tests}
 use Rattle.pipe_types.specs.declared.numbers.StageNo.{StageNo}
-use Rattle.pipe_types.specs.declared.message.Message.{Message}
 use Rattle.pipe_types.specs.declared.message.Place.{Place}
 use Rattle.pipe_types.specs.declared.message.Place.TheVariants.{Running}
 use Rattle.pipe_types.specs.declared.message.Reply.{Reply}
@@ -22,8 +20,8 @@ use Rattle.pipe_model.specs.History.{History, accepted, incarnation}
 use Rattle.pipe_model.specs.Posts.{in_slot, crashes}
 use Rattle.pipe_model.specs.Batches.{Batch}
 use Rattle.pipe_model.specs.Lives.{reason_in, kill_set}
-use Rattle.pipe_model.specs.Content.{content, newer, fresh, record_as, passed_as, passed, has_crash}
-use Rattle.pipe_model.specs.Flow.{place, batch, view_of, among, by_batch, lost_with, answered, reply_to, has_batchers_in, chunk_by, child_place, runs_again, is_number}
+use Rattle.pipe_model.specs.Content.{content, newer, passed_as, passed, has_crash}
+use Rattle.pipe_model.specs.Flow.{place, batch, view_of, by_batch, lost_with, answered, reply_to, has_batchers_in, chunk_by, child_place, runs_again, is_number}
 use Rattle.pipe_model.specs.Legal.{is_legal}
 use Rattle.pipe_model.specs.Moves.{is_final}
 use Rattle.pipe_laws.proofs.Tests.{clash, same_stage-true, same_stage-self}
@@ -35,7 +33,7 @@ use Rattle.pipe_laws.proofs.Settled.{stays_settled}
 use Rattle.queue_laws.proofs.Fits.{Fits}
 use Rattle.queue_laws.proofs.Sounds.{fits}
 use Rattle.queue_laws.proofs.Distinct.{distinct, passes}
-use Rattle.queue_laws.proofs.Gathering.{content_stays}
+use Rattle.queue_laws.proofs.Gathering.{content_stays, fresh_none, no_change, passed_in}
 
 -- it runs in the stage, or is acknowledged or lost
 abbrev pub StillRuns : StageNo → Option Place → Type 0
@@ -98,24 +96,6 @@ run_on topology before step s n other (inl e) = ran_on topology before step s n 
 run_on topology before step s n other (inr final) = inr (ap is_final (stays_settled topology (step ∷ []) before n final) ∙ final)
 
 -- ---- contents
-
-no_change : (o old : Option Message) → is_some o ≡ false → newer o old ≡ old
-no_change None old h = refl
-no_change (Some m) old h = cc
-
-fresh_none : (s : StageNo) (c : ℕ) (records : List (List ℕ)) (n : ℕ) → n ≤ c → fresh s c records n ≡ None
-fresh_none s c records n old = let e : nat_lt c n ≡ false = grind (arith, nat_tests) in ap (λ b. if b then record_as s n (slice_get records (n - (c + 1))) else None) e
-
-passed_in : (replies : List Reply) (n : ℕ) → is_some (passed_as replies n) ≡ true → among (passed replies) n ≡ true
-passed_in [] n h = cc
-passed_in (Pass m ∷ replies) n h = either (m.no.0 == n) h (passed_in replies n)
-  where
-    either : (b : Bool) → is_some (if b then Some m else passed_as replies n) ≡ true → (is_some (passed_as replies n) ≡ true → among (passed replies) n ≡ true) → (b || among (passed replies) n) ≡ true
-    either true h rest = refl
-    either false h rest = rest h
-passed_in (Failed why ∷ replies) n h = passed_in replies n h
-passed_in (Raised why ∷ replies) n h = passed_in replies n h
-passed_in (Crashed ∷ replies) n h = passed_in replies n h
 
 running_content : (topology : Topology) (before : History) (step : Step) (s : StageNo) (n : ℕ) → Fits topology → is_legal topology (step ∷ before) ≡ true → ends_chunk step s ≡ false → place topology before n ≡ Some (Running s) → content (step ∷ before) n ≡ content before n
 running_content topology before (Accept t records) s n fit h other e =

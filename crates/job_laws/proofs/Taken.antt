@@ -7,7 +7,7 @@ use Rattle.pipe_types.specs.declared.numbers.SubNo.{SubNo}
 use Rattle.pipe_types.specs.declared.step.Step.{Step}
 use Rattle.pipe_types.specs.declared.step.Step.TheVariants.{Fetch, Take, Done, Child}
 use Rattle.pipe_types.specs.declared.topology.Role.{Role}
-use Rattle.pipe_types.specs.declared.topology.Role.TheVariants.{Producer, Processor, Supervisor, Batcher, BatchProcessor}
+use Rattle.pipe_types.specs.declared.topology.Role.TheVariants.{BatchProcessor}
 use Rattle.pipe_types.specs.declared.topology.Topology.{Topology}
 use Rattle.pipe_types.specs.Numbers.{post, same_stage}
 use Rattle.pipe_types.specs.Sound.{IsSound}
@@ -23,6 +23,7 @@ use Rattle.pipe_laws.proofs.Tests.{and_left, and_right, not_true, same_stage-tru
 use Rattle.pipe_laws.proofs.Lists.{Each, each_weaker, each_always, each_filter, each_map}
 use Rattle.pipe_laws.proofs.Allowed.{legal_before, legal_step, unowed, take_facts, child_facts, fetch_role, done_facts}
 use Rattle.pipe_laws.proofs.Busy.{two_roles}
+use Rattle.pipe_laws.proofs.Roles.{processor_producer, processor_supervisor, supervisor_writes}
 use Rattle.pipe_laws.proofs.Kept.{runs_here}
 use Rattle.pipe_laws.proofs.Slots.{slot_runs}
 use Rattle.queue_laws.proofs.Distinct.{batch_stays}
@@ -32,33 +33,12 @@ use Rattle.job_laws.proofs.Running.{StillRuns, ends_chunk, run_on}
 
 -- ---- roles
 
-processor_fetches : (r : Role) → is_processor_role r ≡ true → is_producer_role r ≡ true → ⊥
-processor_fetches Producer h k = let x : false ≡ true = h in cc
-processor_fetches Processor h k = let x : false ≡ true = k in cc
-processor_fetches Supervisor h k = let x : false ≡ true = h in cc
-processor_fetches Batcher h k = let x : false ≡ true = h in cc
-processor_fetches BatchProcessor h k = let x : false ≡ true = h in cc
-
-processor_starts : (r : Role) → is_processor_role r ≡ true → is_supervisor_role r ≡ true → ⊥
-processor_starts Producer h k = let x : false ≡ true = h in cc
-processor_starts Processor h k = let x : false ≡ true = k in cc
-processor_starts Supervisor h k = let x : false ≡ true = h in cc
-processor_starts Batcher h k = let x : false ≡ true = h in cc
-processor_starts BatchProcessor h k = let x : false ≡ true = h in cc
-
 writer_fetches : (r : Role) → is_batch_processor_role r ≡ true → is_producer_role r ≡ true → ⊥
-writer_fetches Producer h k = let x : false ≡ true = h in cc
-writer_fetches Processor h k = let x : false ≡ true = h in cc
-writer_fetches Supervisor h k = let x : false ≡ true = h in cc
-writer_fetches Batcher h k = let x : false ≡ true = h in cc
 writer_fetches BatchProcessor h k = let x : false ≡ true = k in cc
+writer_fetches _ h k = let x : false ≡ true = h in cc
 
 writer_starts : (r : Role) → is_batch_processor_role r ≡ true → is_supervisor_role r ≡ true → ⊥
-writer_starts Producer h k = let x : false ≡ true = h in cc
-writer_starts Processor h k = let x : false ≡ true = h in cc
-writer_starts Supervisor h k = let x : false ≡ true = h in cc
-writer_starts Batcher h k = let x : false ≡ true = h in cc
-writer_starts BatchProcessor h k = let x : false ≡ true = k in cc
+writer_starts r h k = supervisor_writes r k h
 
 -- ---- what was taken
 
@@ -128,7 +108,7 @@ chunk_runs topology (step ∷ before) s sound h role out = either (puts_out step
   where
     here : puts_out step (post s 0) ≡ true → Each (λ n. StillRuns s (place topology (step ∷ before) n)) (taken_units topology (step ∷ before) s)
     here e =
-        subst (Each (λ n. StillRuns s (place topology (step ∷ before) n))) (now_taken topology before step s sound h role e (put_takes topology before step s is_processor_role processor_fetches processor_starts h role e))
+        subst (Each (λ n. StillRuns s (place topology (step ∷ before) n))) (now_taken topology before step s sound h role e (put_takes topology before step s is_processor_role processor_producer processor_supervisor h role e))
         (each_weaker (λ n. Unit {0} × (runs_in s (place topology (step ∷ before) n) ≡ true)) (λ n. StillRuns s (place topology (step ∷ before) n)) (λ n r. inl (runs_here s (place topology (step ∷ before) n) r.1)) (running topology (step ∷ before) s)
         (each_filter (λ n. Unit {0}) (λ n. runs_in s (place topology (step ∷ before) n)) (map (λ d. d.1) (sent_to topology (step ∷ before) s)) (each_always (λ n. Unit {0}) (λ n. tt) (map (λ d. d.1) (sent_to topology (step ∷ before) s)))))
 
@@ -146,7 +126,7 @@ chunk_runs topology (step ∷ before) s sound h role out = either (puts_out step
 pub supervisor_chunk : (topology : Topology) (before : History) (step : Step) (s : StageNo) → is_legal topology (step ∷ before) ≡ true → has_role topology s is_supervisor_role ≡ true → ends_chunk step s ≡ false
 supervisor_chunk topology before (Done t replies) s h role =
     false_from_ne_true (same_stage s t)
-    (λ e. two_roles topology s is_processor_role is_supervisor_role processor_starts (ap (λ x. has_role topology x is_processor_role) (same_stage-true s t e) ∙ (done_facts topology before t replies (legal_step topology before (Done t replies) h)).role) role)
+    (λ e. two_roles topology s is_processor_role is_supervisor_role processor_supervisor (ap (λ x. has_role topology x is_processor_role) (same_stage-true s t e) ∙ (done_facts topology before t replies (legal_step topology before (Done t replies) h)).role) role)
 supervisor_chunk topology before _ s h role = refl
 
 -- the message of a child runs in the supervisor while the child is out, or is settled for good

@@ -3,7 +3,7 @@ use Rattle.std.proofs.Common.{◌≡◌, ℕ, Bool, true, false, cond, List, ref
 use Rattle.std.specs.Prelude.{Option, Some, None}
 use Rattle.pipe_types.specs.Reason.{IsReasonText}
 use Rattle.pipe_types.specs.Sound.{is_reason}
-use Rattle.line_reading.proofs.Reasons.{reason_test}
+use Rattle.pipe_types.proofs.Reasons.{reason_test}
 
 abbrev some_text : List ℕ → Option (List ℕ)
 some_text text = Some text

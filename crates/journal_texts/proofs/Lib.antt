@@ -1,4 +1,5 @@
 pub mod Lists
+pub mod Streaming
 pub mod Tallies
 pub mod Reports
 pub mod FoundSteps

@@ -1,7 +1,9 @@
 -- Steps of loops over lists.
 use Rattle.std.proofs.Common.{◌≡◌, ℕ, zero, suc, ◌+◌, ◌<◌, ◌≤◌, get_or, Bool, List, [], ◌∷◌, ◌++◌, length, take, take_all, reverse, refl, sym, ap, ◌∙◌, arith, append-nil, append_assoc, length-take-le, Some}
 use Rattle.std.specs.List.{count_by, flat_map}
-use Rattle.std.specs.Prelude.{codes, slice_get, replicate}
+use Rattle.std.specs.Prelude.{codes, slice_get, replicate, Option, None, Result, Ok, Err, IfOk}
+use Rattle.std.specs.declared.alloc.AllocError.{AllocError}
+use Rattle.journal_texts.specs.Sinks.{Extends}
 use Rattle.std.proofs.lemmas.List.{replicate_more, length-replicate}
 use Rattle.std.proofs.lemmas.List.Concat.{flat_map-append}
 use Rattle.std.proofs.lemmas.Option.{slice_get_read, slice_get_within}
@@ -64,3 +66,18 @@ separator_none at none = ap separator none
 pub separator_some : (at : ℕ) → 0 < at → separator at ≡ codes ","
 separator_some zero some = let none : ⊥ = omega arith in absurd none
 separator_some (suc at) some = refl
+
+-- the same text in other words
+pub retext : {W : Type 0} (puts : W → W → List ℕ → Type 0) (old new : W) (text text' : List ℕ) → text ≡ text' → puts old new text → puts old new text'
+retext puts old new text text' same p = rw same at p
+
+-- a text behind two others
+pub two_tags : (front first key second payload : List ℕ) → (front ++ (first ++ key)) ++ (second ++ payload) ≡ ((front ++ first) ++ key) ++ second ++ payload
+two_tags front first key second payload =
+    sym (append_assoc (front ++ (first ++ key)) second payload) ∙ ap (λ l. (l ++ second) ++ payload) (sym (append_assoc front first key))
+
+-- a text that was written into empty memory
+pub kept : {E : Type 0} (result : Result (List ℕ) E) (wanting wanting' : Option AllocError) (bytes bytes' text : List ℕ) → wanting ≡ None → bytes ≡ []
+    → IfOk result (λ found. (wanting' ≡ None) × (found ≡ bytes')) → Extends wanting bytes wanting' bytes' text → IfOk result (λ found. found ≡ text)
+kept (Ok found) wanting wanting' bytes bytes' text none empty made puts = made.1 ∙ (puts made.0).1 ∙ ap (λ l. l ++ text) empty
+kept (Err e) wanting wanting' bytes bytes' text none empty made puts = tt

@@ -4,3 +4,7 @@ pub mod Report
 pub mod Acks
 pub mod Failures
 pub mod Findings
+pub mod Sinks
+pub mod Streams
+pub mod StreamLaws
+pub mod StreamsOf

@@ -7,8 +7,11 @@
 mod failures;
 mod items;
 pub mod lines;
+pub mod memory;
 mod places;
 pub mod report;
+pub mod sink;
 pub mod status;
 mod steps;
+pub mod stream;
 mod words;

@@ -1,12 +1,14 @@
 //! The line of a step.
 
-ghost use Rattle.std.specs.{Prelude.{◌≡◌, ◌++◌, [], ◌∷◌, OnOk, IfOk, codes, reverse}, List.{flat_map}};
+ghost use Rattle.std.specs.{Prelude.{◌≡◌, ◌++◌, [], ◌∷◌, IfOk, codes, reverse}, List.{flat_map}};
 ghost use Rattle.pipe_journal.specs.{Items.{reply_seen, records_seen, replies_seen}, Views.{end_seen, answer_seen, step_seen}};
 ghost use Rattle.journal_texts.specs.Words.{words};
 ghost use Rattle.journal_texts.specs.Steps.{trigger_word as word_of_trigger, why_word as word_of_why, ends_text, answer_text, step_text, step_line as line_of_step, journal_text as text_of_journal};
 
 use crate::items::{put_ends, put_records, put_replies, put_reply, put_words};
-use crate::words::{cause_word, how_word, put};
+use crate::memory::MemoryText;
+use crate::sink::TextSink;
+use crate::words::{cause_word, how_word};
 use pipe_journal::{AnswerView, EndView, Journal, Records, Replies, ReplyView, StepView};
 use pipe_types::bytes::Bytes;
 use pipe_types::message::{Trigger, Why};
@@ -36,105 +38,87 @@ fn why_word(why: Why) -> &'static [u8]
 }
 
 /// Writes a word, numbers, and one more word.
-#[tactic(auto, using(std::proofs::lemmas::List::append_assoc))]
-fn put_words_and(
-    out: &mut Vec<u8>,
-    word: &[u8],
-    numbers: &[u64],
-    last: &[u8],
-) -> Result<(), AllocError>
-    ensures { OnOk result (out.new.items ≡ out.old.items ++ (words word.now numbers.now ++ codes " " ++ last.now)) }
+fn put_words_and<W: TextSink>(out: &mut W, word: &[u8], numbers: &[u64], last: &[u8])
+    ensures { W.puts out.old out.new (words word.now numbers.now ++ codes " " ++ last.now) }
 {
-    put_words(out, word, numbers)?;
-    put(out, b" ")?;
-    put(out, last)
+    put_words(out, word, numbers);
+    out.put(b" ");
+    out.put(last);
 }
 
 /// Writes a word, numbers, and the space before what follows.
-#[tactic(auto, using(std::proofs::lemmas::List::append_assoc))]
-fn put_head(out: &mut Vec<u8>, word: &[u8], numbers: &[u64]) -> Result<(), AllocError>
-    ensures { OnOk result (out.new.items ≡ out.old.items ++ (words word.now numbers.now ++ codes " ")) }
+fn put_head<W: TextSink>(out: &mut W, word: &[u8], numbers: &[u64])
+    ensures { W.puts out.old out.new (words word.now numbers.now ++ codes " ") }
 {
-    put_words(out, word, numbers)?;
-    put(out, b" ")
+    put_words(out, word, numbers);
+    out.put(b" ");
 }
 
-#[tactic(auto, using(std::proofs::lemmas::List::append_assoc))]
-fn put_wrote(out: &mut Vec<u8>, numbers: &[u64], end: EndView<'_>) -> Result<(), AllocError>
-    ensures { OnOk result (out.new.items ≡ out.old.items ++ (words (codes "wrote") numbers.now ++ codes " " ++ ends_text (end_seen end.entry))) }
+fn put_wrote<W: TextSink>(out: &mut W, numbers: &[u64], end: EndView<'_>)
+    ensures { W.puts out.old out.new (words (codes "wrote") numbers.now ++ codes " " ++ ends_text (end_seen end.entry)) }
 {
-    put_head(out, b"wrote", numbers)?;
-    put_ends(out, end)
+    put_head(out, b"wrote", numbers);
+    put_ends(out, end);
 }
 
-#[tactic(auto, using(std::proofs::lemmas::List::append_assoc))]
-fn put_answer(out: &mut Vec<u8>, answer: AnswerView<'_>) -> Result<(), AllocError>
-    ensures { OnOk result (out.new.items ≡ out.old.items ++ answer_text (answer_seen answer.entry)) }
+fn put_answer<W: TextSink>(out: &mut W, answer: AnswerView<'_>)
+    ensures { W.puts out.old out.new (answer_text (answer_seen answer.entry)) }
 {
     match answer {
         AnswerView::Records(records) => {
-            put(out, b"records ")?;
+            out.put(b"records ");
             put_records(out, Records::Listed(records))
         }
-        AnswerView::Quiet => put(out, b"quiet"),
+        AnswerView::Quiet => out.put(b"quiet"),
         AnswerView::Source(how) => {
-            put(out, b"source ")?;
-            put(out, how_word(how))
+            out.put(b"source ");
+            out.put(how_word(how))
         }
         AnswerView::Wrote(bytes, end) => put_wrote(out, &[bytes], end),
-        AnswerView::Nothing => put(out, b"none"),
+        AnswerView::Nothing => out.put(b"none"),
     }
 }
 
-#[tactic(auto, using(std::proofs::lemmas::List::append_assoc))]
-fn put_accept(out: &mut Vec<u8>, stage: StageNo, records: Records<'_>) -> Result<(), AllocError>
-    ensures { OnOk result (out.new.items ≡ out.old.items ++ step_text (Step.Accept stage (records_seen records.entry))) }
+fn put_accept<W: TextSink>(out: &mut W, stage: StageNo, records: Records<'_>)
+    ensures { W.puts out.old out.new (step_text (Step.Accept stage (records_seen records.entry))) }
 {
-    put_head(out, b"accept", &[stage.0 as u64])?;
-    put_records(out, records)
+    put_head(out, b"accept", &[stage.0 as u64]);
+    put_records(out, records);
 }
 
-#[tactic(auto, using(std::proofs::lemmas::List::append_assoc))]
-fn put_done(out: &mut Vec<u8>, stage: StageNo, replies: Replies<'_>) -> Result<(), AllocError>
-    ensures { OnOk result (out.new.items ≡ out.old.items ++ step_text (Step.Done stage (replies_seen replies.entry))) }
+fn put_done<W: TextSink>(out: &mut W, stage: StageNo, replies: Replies<'_>)
+    ensures { W.puts out.old out.new (step_text (Step.Done stage (replies_seen replies.entry))) }
 {
-    put_head(out, b"done", &[stage.0 as u64])?;
-    put_replies(out, replies)
+    put_head(out, b"done", &[stage.0 as u64]);
+    put_replies(out, replies);
 }
 
-#[tactic(auto, using(std::proofs::lemmas::List::append_assoc))]
-fn put_child_end(
-    out: &mut Vec<u8>,
-    stage: StageNo,
-    slot: u16,
-    reply: ReplyView<'_>,
-) -> Result<(), AllocError>
-    ensures { OnOk result (out.new.items ≡ out.old.items ++ step_text (Step.ChildEnd stage slot (reply_seen reply.entry))) }
+fn put_child_end<W: TextSink>(out: &mut W, stage: StageNo, slot: u16, reply: ReplyView<'_>)
+    ensures { W.puts out.old out.new (step_text (Step.ChildEnd stage slot (reply_seen reply.entry))) }
 {
-    put_head(out, b"childend", &[stage.0 as u64, slot as u64])?;
-    put_reply(out, reply)
+    put_head(out, b"childend", &[stage.0 as u64, slot as u64]);
+    put_reply(out, reply);
 }
 
-#[tactic(auto, using(std::proofs::lemmas::List::append_assoc))]
-fn put_late(
-    out: &mut Vec<u8>,
+fn put_late<W: TextSink>(
+    out: &mut W,
     stage: StageNo,
     slot: u16,
     incarnation: u32,
     answer: AnswerView<'_>,
-) -> Result<(), AllocError>
-    ensures { OnOk result (out.new.items ≡ out.old.items ++ step_text (Step.Late stage slot incarnation (answer_seen answer.entry))) }
+)
+    ensures { W.puts out.old out.new (step_text (Step.Late stage slot incarnation (answer_seen answer.entry))) }
 {
     put_head(
         out,
         b"late",
         &[stage.0 as u64, slot as u64, incarnation as u64],
-    )?;
-    put_answer(out, answer)
+    );
+    put_answer(out, answer);
 }
 
-fn put_ask(out: &mut Vec<u8>, sub: SubNo, n: u32) -> Result<(), AllocError>
-    ensures { OnOk result (out.new.items ≡ out.old.items ++ step_text (Step.Ask sub n)) }
+fn put_ask<W: TextSink>(out: &mut W, sub: SubNo, n: u32)
+    ensures { W.puts out.old out.new (step_text (Step.Ask sub n)) }
 {
     let consumer = sub.consumer.0 as u64;
     let producer = sub.producer.0 as u64;
@@ -142,47 +126,41 @@ fn put_ask(out: &mut Vec<u8>, sub: SubNo, n: u32) -> Result<(), AllocError>
         out,
         b"ask",
         &[consumer, producer, sub.generation as u64, n as u64],
-    )
+    );
 }
 
-fn put_take(out: &mut Vec<u8>, stage: StageNo, sub: SubNo, k: u32) -> Result<(), AllocError>
-    ensures { OnOk result (out.new.items ≡ out.old.items ++ step_text (Step.Take stage sub k)) }
+fn put_take<W: TextSink>(out: &mut W, stage: StageNo, sub: SubNo, k: u32)
+    ensures { W.puts out.old out.new (step_text (Step.Take stage sub k)) }
 {
     let producer = sub.producer.0 as u64;
     put_words(
         out,
         b"take",
         &[stage.0 as u64, producer, sub.generation as u64, k as u64],
-    )
+    );
 }
 
-fn put_close(
-    out: &mut Vec<u8>,
-    stage: StageNo,
-    first: MsgNo,
-    trigger: Trigger,
-) -> Result<(), AllocError>
-    ensures { OnOk result (out.new.items ≡ out.old.items ++ step_text (Step.Close stage first trigger)) }
+fn put_close<W: TextSink>(out: &mut W, stage: StageNo, first: MsgNo, trigger: Trigger)
+    ensures { W.puts out.old out.new (step_text (Step.Close stage first trigger)) }
 {
     put_words_and(
         out,
         b"close",
         &[stage.0 as u64, first.0 as u64],
         trigger_word(trigger),
-    )
+    );
 }
 
-#[tactic(auto, using(std::proofs::lemmas::List::append_assoc))]
-fn put_drain(out: &mut Vec<u8>, cause: DrainCause) -> Result<(), AllocError>
-    ensures { OnOk result (out.new.items ≡ out.old.items ++ step_text (Step.Drain cause)) }
+fn put_drain<W: TextSink>(out: &mut W, cause: DrainCause)
+    ensures { W.puts out.old out.new (step_text (Step.Drain cause)) }
 {
-    put(out, b"drain ")?;
-    put(out, cause_word(cause))
+    out.put(b"drain ");
+    out.put(cause_word(cause));
 }
 
 /// Writes the words of a step.
-fn put_step(out: &mut Vec<u8>, step: StepView<'_>) -> Result<(), AllocError>
-    ensures { OnOk result (out.new.items ≡ out.old.items ++ step_text (step_seen step.entry)) }
+fn put_step<W: TextSink>(out: &mut W, step: StepView<'_>)
+    ensures { W.puts out.old out.new (step_text (step_seen step.entry)) }
 {
     match step {
         StepView::Ask { sub, n } => put_ask(out, sub, n),
@@ -218,39 +196,36 @@ fn put_step(out: &mut Vec<u8>, step: StepView<'_>) -> Result<(), AllocError>
         StepView::Restart { stage } => put_words(out, b"restart", &[stage.0 as u64]),
         StepView::Tick { now } => put_words(out, b"tick", &[now]),
         StepView::Drain { cause } => put_drain(out, cause),
-        StepView::Halt => put(out, b"halt"),
+        StepView::Halt => out.put(b"halt"),
         StepView::Refuse { line } => put_words(out, b"refuse", &[line as u64]),
     }
 }
 
 /// Writes the line of a step.
-#[tactic(auto, using(std::proofs::lemmas::List::append_assoc))]
-fn put_line(out: &mut Vec<u8>, step: StepView<'_>) -> Result<(), AllocError>
-    ensures { OnOk result (out.new.items ≡ out.old.items ++ line_of_step (step_seen step.entry)) }
+fn put_line<W: TextSink>(out: &mut W, step: StepView<'_>)
+    ensures { W.puts out.old out.new (line_of_step (step_seen step.entry)) }
 {
-    put_step(out, step)?;
-    put(out, b"\n")
+    put_step(out, step);
+    out.put(b"\n");
 }
 
 /// Writes the lines of the steps.
-fn put_lines(out: &mut Vec<u8>, journal: &Journal) -> Result<(), AllocError>
-    ensures { OnOk result (out.new.items ≡ out.old.items ++ flat_map line_of_step (reverse journal.now.steps)) }
+fn put_lines<W: TextSink>(out: &mut W, journal: &Journal)
+    ensures { W.puts out.old out.new (flat_map line_of_step (reverse journal.now.steps)) }
 {
     for at in 0..journal.len() {
-        put_line(out, journal.view(at))?;
+        put_line(out, journal.view(at));
     }
-    Ok(())
 }
 
-/// Writes the text of a journal.
-#[tactic(auto, using(std::proofs::lemmas::List::append_assoc, pipe_journal::proofs::Walks::length_reversed))]
-fn put_journal(out: &mut Vec<u8>, journal: &Journal) -> Result<(), AllocError>
-    ensures { OnOk result (out.new.items ≡ out.old.items ++ text_of_journal journal.now.steps) }
+/// Writes the text of a journal: its head, the line of each step, and the number of steps.
+pub fn put_journal<W: TextSink>(out: &mut W, journal: &Journal)
+    ensures { W.puts out.old out.new (text_of_journal journal.now.steps) }
 {
-    put(out, b"journal 1\n")?;
-    put_lines(out, journal)?;
-    put_words(out, b"end", &[journal.len()])?;
-    put(out, b"\n")
+    out.put(b"journal 1\n");
+    put_lines(out, journal);
+    put_words(out, b"end", &[journal.len()]);
+    out.put(b"\n");
 }
 
 /// The line of a step in the journal's text, with its end. A step of a legal journal can be read back from it; a list
@@ -258,16 +233,16 @@ fn put_journal(out: &mut Vec<u8>, journal: &Journal) -> Result<(), AllocError>
 pub fn step_line(alloc: Global, step: &Step) -> Result<Bytes, AllocError>
     ensures { IfOk result (λ line. line ≡ line_of_step step.now) }
 {
-    let mut out = Vec::new(alloc);
-    put_line(&mut out, StepView::of(step))?;
-    Ok(Bytes::from_vec(out))
+    let mut out = MemoryText::new(alloc);
+    put_line(&mut out, StepView::of(step));
+    out.into_bytes()
 }
 
 /// The text of a journal: its head, the line of each step, and the number of steps.
 pub fn journal_text(alloc: Global, journal: &Journal) -> Result<Bytes, AllocError>
     ensures { IfOk result (λ text. text ≡ text_of_journal journal.now.steps) }
 {
-    let mut out = Vec::new(alloc);
-    put_journal(&mut out, journal)?;
-    Ok(Bytes::from_vec(out))
+    let mut out = MemoryText::new(alloc);
+    put_journal(&mut out, journal);
+    out.into_bytes()
 }

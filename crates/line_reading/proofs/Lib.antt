@@ -1,5 +1,4 @@
 pub mod Loops
-pub mod Reasons
 pub mod Spelt
 pub mod Chains
 pub mod ItemsAgain

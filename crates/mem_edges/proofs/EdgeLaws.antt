@@ -30,71 +30,41 @@ seen_there f (Some x) item h = ap (λ o. option_map_or f o []) h
 none_there : {T : Type 0} (n : List ℕ) (before now : List (Named T)) → under n now ≡ under n before → under n before ≡ None → under n now ≡ None
 none_there n before now e h = e ∙ h
 
+-- what stands under the other names stands as before where it does so on each shelf
+elsewhere_kept : (before now : MemEdges) (kind : EdgeKind) (name : List ℕ) → ((n : List ℕ) → ¬ ((File ≡ kind) × (n ≡ name)) → under n now.files.items ≡ under n before.files.items)
+    → ((n : List ℕ) → ¬ ((Source ≡ kind) × (n ≡ name)) → under n now.sources.items ≡ under n before.sources.items)
+    → ((n : List ℕ) → ¬ ((Sink ≡ kind) × (n ≡ name)) → under n now.sinks.items ≡ under n before.sinks.items) → SameElsewhere before now kind name
+elsewhere_kept before now kind name files sources sinks = record {
+  named = named;
+  free = free;
+  new = new;
+} where
+  named : (k : EdgeKind) (n : List ℕ) → ¬ ((k ≡ kind) × (n ≡ name)) → named_in now k n ≡ named_in before k n
+  named File n h = rw (files n h) refl
+  named Source n h = rw (sources n h) refl
+  named Sink n h = rw (sinks n h) refl
+
+  free : (k : EdgeKind) (n : List ℕ) → ¬ ((k ≡ kind) × (n ≡ name)) → is_free_in now k n ≡ is_free_in before k n
+  free File n h = rw (files n h) refl
+  free Source n h = rw (sources n h) refl
+  free Sink n h = rw (sinks n h) refl
+
+  new : (k : EdgeKind) (n : List ℕ) → ¬ ((k ≡ kind) × (n ≡ name)) → IsNew before k n → IsNew now k n
+  new File n h i = files n h ∙ i
+  new Source n h i = sources n h ∙ i
+  new Sink n h i = sinks n h ∙ i
+
 pub source_put : (before now : MemEdges) (name : List ℕ) (item : MemSource) (returned : Bool) → Puts name item returned before.sources.items now.sources.items
     → now.sinks.items ≡ before.sinks.items → now.files.items ≡ before.files.items → SameElsewhere before now Source name
-source_put before now name item returned p sinks files = record {
-  named = source_named;
-  free = source_free;
-  new = source_new;
-} where
-  source_named : (k : EdgeKind) (n : List ℕ) → ¬ ((k ≡ Source) × (n ≡ name)) → named_in now k n ≡ named_in before k n
-  source_named File n h = rw files refl
-  source_named Source n h = rw (p.others n (λ e. h (refl, e))) refl
-  source_named Sink n h = rw sinks refl
-
-  source_free : (k : EdgeKind) (n : List ℕ) → ¬ ((k ≡ Source) × (n ≡ name)) → is_free_in now k n ≡ is_free_in before k n
-  source_free File n h = rw files refl
-  source_free Source n h = rw (p.others n (λ e. h (refl, e))) refl
-  source_free Sink n h = rw sinks refl
-
-  source_new : (k : EdgeKind) (n : List ℕ) → ¬ ((k ≡ Source) × (n ≡ name)) → IsNew before k n → IsNew now k n
-  source_new File n h i = rw files i
-  source_new Source n h i = p.others n (λ e. h (refl, e)) ∙ i
-  source_new Sink n h i = rw sinks i
+source_put before now name item returned p sinks files = elsewhere_kept before now Source name (λ n h. rw files refl) (λ n h. p.others n (λ e. h (refl, e))) (λ n h. rw sinks refl)
 
 pub sink_put : (before now : MemEdges) (name : List ℕ) (item : MemSink) (returned : Bool) → Puts name item returned before.sinks.items now.sinks.items
     → now.sources.items ≡ before.sources.items → now.files.items ≡ before.files.items → SameElsewhere before now Sink name
-sink_put before now name item returned p sources files = record {
-  named = sink_named;
-  free = sink_free;
-  new = sink_new;
-} where
-  sink_named : (k : EdgeKind) (n : List ℕ) → ¬ ((k ≡ Sink) × (n ≡ name)) → named_in now k n ≡ named_in before k n
-  sink_named File n h = rw files refl
-  sink_named Source n h = rw sources refl
-  sink_named Sink n h = rw (p.others n (λ e. h (refl, e))) refl
-
-  sink_free : (k : EdgeKind) (n : List ℕ) → ¬ ((k ≡ Sink) × (n ≡ name)) → is_free_in now k n ≡ is_free_in before k n
-  sink_free File n h = rw files refl
-  sink_free Source n h = rw sources refl
-  sink_free Sink n h = rw (p.others n (λ e. h (refl, e))) refl
-
-  sink_new : (k : EdgeKind) (n : List ℕ) → ¬ ((k ≡ Sink) × (n ≡ name)) → IsNew before k n → IsNew now k n
-  sink_new File n h i = rw files i
-  sink_new Source n h i = rw sources i
-  sink_new Sink n h i = p.others n (λ e. h (refl, e)) ∙ i
+sink_put before now name item returned p sources files = elsewhere_kept before now Sink name (λ n h. rw files refl) (λ n h. rw sources refl) (λ n h. p.others n (λ e. h (refl, e)))
 
 pub file_put : (before now : MemEdges) (name : List ℕ) (item : List ℕ) (returned : Bool) → Puts name item returned before.files.items now.files.items
     → now.sources.items ≡ before.sources.items → now.sinks.items ≡ before.sinks.items → SameElsewhere before now File name
-file_put before now name item returned p sources sinks = record {
-  named = file_named;
-  free = file_free;
-  new = file_new;
-} where
-  file_named : (k : EdgeKind) (n : List ℕ) → ¬ ((k ≡ File) × (n ≡ name)) → named_in now k n ≡ named_in before k n
-  file_named File n h = rw (p.others n (λ e. h (refl, e))) refl
-  file_named Source n h = rw sources refl
-  file_named Sink n h = rw sinks refl
-
-  file_free : (k : EdgeKind) (n : List ℕ) → ¬ ((k ≡ File) × (n ≡ name)) → is_free_in now k n ≡ is_free_in before k n
-  file_free File n h = rw (p.others n (λ e. h (refl, e))) refl
-  file_free Source n h = rw sources refl
-  file_free Sink n h = rw sinks refl
-
-  file_new : (k : EdgeKind) (n : List ℕ) → ¬ ((k ≡ File) × (n ≡ name)) → IsNew before k n → IsNew now k n
-  file_new File n h i = p.others n (λ e. h (refl, e)) ∙ i
-  file_new Source n h i = rw sources i
-  file_new Sink n h i = rw sinks i
+file_put before now name item returned p sources sinks = elsewhere_kept before now File name (λ n h. p.others n (λ e. h (refl, e))) (λ n h. rw sources refl) (λ n h. rw sinks refl)
 
 -- the same shelves show the same
 pub same_named : (before now : MemEdges) → now.sources.items ≡ before.sources.items → now.sinks.items ≡ before.sinks.items → now.files.items ≡ before.files.items

@@ -1,6 +1,6 @@
-//! A callback of one's own, and a call of the program with it over objects in memory.
+//! Callbacks of one's own, and a call of the program with them over objects in memory.
 //!
-//! `ThirdCrashes` passes each message and crashes at its third one. `PlainLines` writes nothing but printable ASCII, as its law
+//! `ThirdCrashes` is a handler that passes each message and crashes at its third one. `PlainLines` writes nothing but printable ASCII, as its law
 //! says, and `run_plain` shows what that makes of a whole run. `run_with` hands callbacks to `run_program`, with the
 //! words `run t --workers N --steps --acks`, a topology file and lines, and its contract says what comes of it. `run_program`,
 //! that of `pipe_top`, is handed on to programs that take this crate. `run_lines` is for tests of one's own: it runs a topology

@@ -154,26 +154,37 @@ members_of k ps cs ss bs ds p c v b =
       none_of role.Batcher k bs refl b,
     ) refl
 
+-- how many stages stand before the batchers, and the stages of each kind
+abbrev stages_above : Settings → ℕ
+stages_above s = length s.producers + processor_count s.processors + supervisor_count s.supervisor
+
+abbrev producers_in : Settings → List StageSpec
+producers_in s = producer_stages (partition_field s.processors) (processor_count s.processors) 1 0 s.producers
+
+abbrev processors_in : Settings → List StageSpec
+processors_in s = processor_stages (batcher_names s.batchers) (length s.producers) (second_limit s) s.processors
+
+abbrev supervisors_in : Settings → List StageSpec
+supervisors_in s = supervisor_stages (length s.producers) (third_limit s) s.supervisor
+
+abbrev batchers_in : Settings → List StageSpec
+batchers_in s = batcher_stages (stages_above s) (fourth_limit s) 0 s.batchers
+
+abbrev writers_in : Settings → List StageSpec
+writers_in s = batch_processor_stages (stages_above s + length s.batchers) (fourth_limit s) 0 s.batchers
+
 count_fits : (s : Settings) → stage_count s ≤ 64 → length (stages_of s) ≤ 64
 count_fits s few =
-    let known : List (List ℕ) = batcher_names s.batchers in
-    let first : ℕ = length s.producers in
-    let second : ℕ = first + processor_count s.processors + supervisor_count s.supervisor in
-    let ps : List StageSpec = producer_stages (partition_field s.processors) (processor_count s.processors) 1 0 s.producers in
-    let cs : List StageSpec = processor_stages known first (second_limit s) s.processors in
-    let ss : List StageSpec = supervisor_stages first (third_limit s) s.supervisor in
-    let bs : List StageSpec = batcher_stages second (fourth_limit s) 0 s.batchers in
-    let ds : List StageSpec = batch_processor_stages (second + length s.batchers) (fourth_limit s) 0 s.batchers in
     rw (
-      length-append ps (cs ++ (ss ++ (bs ++ ds))),
-      length-append cs (ss ++ (bs ++ ds)),
-      length-append ss (bs ++ ds),
-      length-append bs ds,
+      length-append (producers_in s) ((processors_in s) ++ ((supervisors_in s) ++ ((batchers_in s) ++ (writers_in s)))),
+      length-append (processors_in s) ((supervisors_in s) ++ ((batchers_in s) ++ (writers_in s))),
+      length-append (supervisors_in s) ((batchers_in s) ++ (writers_in s)),
+      length-append (batchers_in s) (writers_in s),
       length-producers (partition_field s.processors) (processor_count s.processors) 1 0 s.producers,
-      length-processors known first (second_limit s) s.processors,
-      length-supervisors first (third_limit s) s.supervisor,
-      length-batchers second (fourth_limit s) 0 s.batchers,
-      length-batch_processors (second + length s.batchers) (fourth_limit s) 0 s.batchers,
+      length-processors (batcher_names s.batchers) (length s.producers) (second_limit s) s.processors,
+      length-supervisors (length s.producers) (third_limit s) s.supervisor,
+      length-batchers (stages_above s) (fourth_limit s) 0 s.batchers,
+      length-batch_processors (stages_above s + length s.batchers) (fourth_limit s) 0 s.batchers,
     )
     (omega arith)
 
@@ -247,14 +258,6 @@ limited_members total before l k (b ∷ bs) one h =
 
 limited_stages : (s : Settings) → list_all (has_limit (length (limits_of s))) (stages_of s) ≡ true
 limited_stages s =
-    let known : List (List ℕ) = batcher_names s.batchers in
-    let first : ℕ = length s.producers in
-    let second : ℕ = first + processor_count s.processors + supervisor_count s.supervisor in
-    let ps : List StageSpec = producer_stages (partition_field s.processors) (processor_count s.processors) 1 0 s.producers in
-    let cs : List StageSpec = processor_stages known first (second_limit s) s.processors in
-    let ss : List StageSpec = supervisor_stages first (third_limit s) s.supervisor in
-    let bs : List StageSpec = batcher_stages second (fourth_limit s) 0 s.batchers in
-    let ds : List StageSpec = batch_processor_stages (second + length s.batchers) (fourth_limit s) 0 s.batchers in
     let total : ℕ = length (limits_of s) in
     let last : fourth_limit s ≤ total = omega (arith, places_from (fourth_limit s) (batcher_limits s.batchers), total_limits s) in
     let third : third_limit s ≤ fourth_limit s = places_from (third_limit s) (supervisor_limits s.supervisor) in
@@ -264,9 +267,9 @@ limited_stages s =
     let behind : places_after (fourth_limit s) (batcher_limits s.batchers) ≤ total = omega (arith, total_limits s) in
     let to_third : third_limit s ≤ total = omega (arith, last, third) in
     let to_second : second_limit s ≤ total = omega (arith, to_third, before) in
-    five_all (has_limit total) ps cs ss bs ds (limited_producers total (partition_field s.processors) (processor_count s.processors) 1 0 s.producers one to_second)
-    (limited_processors total known first (second_limit s) s.processors one to_third) (limited_supervisors total first (third_limit s) s.supervisor one last)
-    (limited_batchers total second (fourth_limit s) 0 s.batchers one behind) (limited_members total (second + length s.batchers) (fourth_limit s) 0 s.batchers one behind)
+    five_all (has_limit total) (producers_in s) (processors_in s) (supervisors_in s) (batchers_in s) (writers_in s) (limited_producers total (partition_field s.processors) (processor_count s.processors) 1 0 s.producers one to_second)
+    (limited_processors total (batcher_names s.batchers) (length s.producers) (second_limit s) s.processors one to_third) (limited_supervisors total (length s.producers) (third_limit s) s.supervisor one last)
+    (limited_batchers total (stages_above s) (fourth_limit s) 0 s.batchers one behind) (limited_members total (stages_above s + length s.batchers) (fourth_limit s) 0 s.batchers one behind)
 
 -- each limit is in its range
 

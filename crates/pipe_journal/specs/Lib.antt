@@ -1,4 +1,5 @@
 pub mod Recorded
+pub mod Acked
 pub mod Cuts
 pub mod Entries
 pub mod Grown

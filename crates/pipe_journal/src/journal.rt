@@ -1,8 +1,9 @@
 //! The list of steps.
 
-ghost use Rattle.std.specs.Prelude.{◌≡◌, ◌+◌, ◌<◌, ◌≤◌, ◌==◌, [], ◌∷◌, length, Some, option_copied, option_map, IsOk, IfOk, OnOk, OnErr, IfErr};
+ghost use Rattle.std.specs.Prelude.{◌≡◌, ◌+◌, ◌<◌, ◌≤◌, ◌==◌, [], ◌∷◌, ◌++◌, length, Some, option_copied, option_map, IsOk, IfOk, OnOk, OnErr, IfErr};
 ghost use Rattle.pipe_journal.specs.{Items.{reply_seen}, Readers.{step_at, payload_at, reply_at}, Views.{step_seen}};
 
+use crate::acked::AckRow;
 use crate::entry::{Entry, pack};
 use crate::items::ReplyView;
 use crate::kept::Kept;
@@ -19,6 +20,8 @@ pub struct Journal {
     entries: Vec<Entry>,
     // What does not fit into the entries.
     store: Store,
+    // The acknowledged messages.
+    acked: Vec<AckRow>,
     alloc: Global,
 }
 
@@ -32,6 +35,7 @@ impl Model for Journal {
     ghost view = { λ j. record {
       steps = steps_of j.store j.entries.items;
       spare = min (vec_capacity j.entries - vec_len j.entries) (spare_of j.store);
+      acked = record { rows = j.acked.items; room = vec_capacity j.acked };
     } };
 
     ghost invariant = { λ j. AreHeld j.store j.entries.items };
@@ -40,7 +44,8 @@ impl Model for Journal {
 impl Journal {
     /// A journal with no step. What it takes later comes from `alloc`.
     pub fn new(alloc: Global) -> Self
-        ensures { result.steps ≡ [] }
+        ensures empty { result.steps ≡ [] }
+        ensures none { result.acked.rows ≡ [] }
     {
         Journal {
             entries: Vec::new(alloc),
@@ -48,6 +53,7 @@ impl Journal {
                 kept: Kept::new(alloc),
                 whole: Slab::new(alloc),
             },
+            acked: Vec::new(alloc),
             alloc,
         }
     }
@@ -59,6 +65,7 @@ impl Journal {
         ensures step_returned { IfErr result (λ refused. refused.0 ≡ step) }
         ensures spare { self.old.spare ≤ self.new.spare + 1 }
         ensures takes_spare { OnErr result (self.old.spare ≡ 0) }
+        ensures same_acked { self.new.acked ≡ self.old.acked }
     {
         if let Err(error) = self.reserve(1) {
             return Err((step, error));
@@ -73,6 +80,7 @@ impl Journal {
         ensures spare { self.old.spare ≤ self.new.spare }
         ensures room { OnOk result (entries ≤ self.new.spare) }
         ensures had_room { entries ≤ self.old.spare → IsOk result }
+        ensures same_acked { self.new.acked ≡ self.old.acked }
     {
         self.entries.reserve(entries as usize)?;
         self.store.reserve(entries as usize)
@@ -83,9 +91,39 @@ impl Journal {
         requires { 1 ≤ self.old.spare }
         ensures written { self.new.steps ≡ step ∷ self.old.steps }
         ensures spare { self.old.spare ≤ self.new.spare + 1 }
+        ensures same_acked { self.new.acked ≡ self.old.acked }
     {
         let entry = pack(&mut self.store, step);
         self.entries.push_reserved(entry);
+    }
+
+    /// Makes room for that many rows of acknowledged messages in all, which then take no memory.
+    pub fn reserve_acked(&mut self, rows: usize) -> Result<(), AllocError>
+        ensures same_steps { self.new.steps ≡ self.old.steps }
+        ensures same_spare { self.new.spare ≡ self.old.spare }
+        ensures same_rows { self.new.acked.rows ≡ self.old.acked.rows }
+        ensures kept_room { self.old.acked.room ≤ self.new.acked.room }
+        ensures room { OnOk result (rows ≤ self.new.acked.room) }
+    {
+        self.acked.reserve(rows.saturating_sub(self.acked.len()))
+    }
+
+    /// Notes an acknowledged message behind the others, in room that was made before.
+    pub fn note_acked(&mut self, row: AckRow)
+        requires { length self.old.acked.rows < self.old.acked.room }
+        ensures noted { self.new.acked.rows ≡ self.old.acked.rows ++ row ∷ [] }
+        ensures same_room { self.new.acked.room ≡ self.old.acked.room }
+        ensures same_steps { self.new.steps ≡ self.old.steps }
+        ensures same_spare { self.new.spare ≡ self.old.spare }
+    {
+        self.acked.push_reserved(row);
+    }
+
+    /// The acknowledged messages that were noted, in their order.
+    pub fn acked(&self) -> &[AckRow]
+        ensures { result.now ≡ self.now.acked.rows }
+    {
+        &self.acked
     }
 
     /// The number of steps.

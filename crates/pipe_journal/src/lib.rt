@@ -9,8 +9,12 @@
 //! run stands once. A late answer, outcomes that are not all successes, and whatever there is no memory to pack are kept as they
 //! came. A reader lends all of it, as a `StepView` or as one record or reply by the place of its step and its place there, and
 //! takes no memory. Only `get` copies.
+//!
+//! Beside its steps a journal keeps a log: a row for each message that a step acknowledged. Whoever writes the steps notes the rows, and
+//! `IsLog` says of a topology which rows these must be. So what is new in the journal is acknowledged at the cost of that alone.
 #![tactic(auto)]
 
+mod acked;
 mod copies;
 mod entry;
 pub mod items;
@@ -21,6 +25,7 @@ mod store;
 pub mod view;
 mod watch;
 
+pub use acked::AckRow;
 pub use items::{MessageView, Records, Replies, ReplyView};
 pub use journal::Journal;
 pub use kept::Kept;

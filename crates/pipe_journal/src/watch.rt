@@ -6,7 +6,7 @@
 ghost use Rattle.std.specs.Prelude.{◌≡◌, ◌≤◌, ◌↔◌, Bool, ℕ, List, None, Option, true, false};
 ghost use Rattle.pipe_types.specs.{Counts.{Rose}, declared.topology.Topology.{Topology}};
 ghost use Rattle.pipe_model.specs.{Begins.{BeginsWith}, History.{History}, Legal.{is_legal}};
-ghost use Rattle.pipe_journal.specs.Watched.{StandsOn, is_failure};
+ghost use Rattle.pipe_journal.specs.{Acked.{IsLog}, Watched.{StandsOn, is_failure}};
 
 use crate::journal::Journal;
 
@@ -35,9 +35,10 @@ pub trait Watch: Send {
     /// How often something failed.
     ghost faults: { Self → ℕ };
 
-    /// Shows it the journal, of which it has seen a part before. For want of memory, and where it fails, it has seen a part.
+    /// Shows it the journal, whose log is that of its steps, and of which it has seen a part before. For want of memory, and where it
+    /// fails, it has seen a part.
     fn seen(&mut self, journal: &Journal) -> WatchEnd
-        requires fits { (topology : Topology) × fits self.old topology × (is_legal topology journal.now.steps ≡ true) }
+        requires fits { (topology : Topology) × fits self.old topology × (is_legal topology journal.now.steps ≡ true) × IsLog topology journal.now.steps journal.now.acked.rows }
         requires stands { (earlier : History) × stands self.old earlier × BeginsWith journal.now.steps earlier }
         requires whole { failed self.old ≡ false }
         ensures same_fit { (topology : Topology) → fits self.new topology ↔ fits self.old topology }

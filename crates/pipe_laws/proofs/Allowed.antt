@@ -6,6 +6,7 @@ use Rattle.pipe_types.specs.declared.numbers.SubNo.{SubNo}
 use Rattle.pipe_types.specs.declared.numbers.StageNo.{StageNo}
 use Rattle.pipe_types.specs.declared.numbers.MsgNo.{MsgNo}
 use Rattle.pipe_types.specs.declared.topology.Topology.{Topology}
+use Rattle.pipe_types.specs.declared.topology.Role.{Role}
 use Rattle.pipe_types.specs.declared.message.BatchEnd.{BatchEnd}
 use Rattle.pipe_types.specs.declared.message.BatchEnd.TheVariants.{Crashed as BatchCrashed}
 use Rattle.pipe_types.specs.declared.message.Reply.{Reply}
@@ -87,41 +88,41 @@ take_facts topology before s u k h =
       room = and_right (k == chunk_size (spec_of topology s) (length (units_on u (inbox topology before s)))) _ five;
     }
 
-pub record DoneFacts (topology : Topology) (before : History) (s : StageNo) (replies : List Reply) : Type 0 where
+-- what is known of a step that answers a post
+pub record AnswerFacts (topology : Topology) (before : History) (s : StageNo) (one : Role → Bool) (slot : ℕ) (fits : Bool) : Type 0 where
   pub live : is_live topology before s ≡ true
-  pub role : has_role topology s is_processor_role ≡ true
-  pub current : is_current before s 0 ≡ true
-  pub handled : are_handled (spec_of topology s) (count topology before s) (chunk_of topology before s) replies ≡ true
+  pub role : has_role topology s one ≡ true
+  pub current : is_current before s slot ≡ true
+  pub handled : fits ≡ true
+
+answer_facts : (topology : Topology) (before : History) (s : StageNo) (one : Role → Bool) (slot : ℕ) (fits : Bool) → (is_live topology before s && (has_role topology s one && (is_current before s slot && fits))) ≡ true → AnswerFacts topology before s one slot fits
+answer_facts topology before s one slot fits h =
+    let behind = and_right (is_live topology before s) _ h in
+    let rest = and_right (has_role topology s one) _ behind in
+    record {
+      live = and_left (is_live topology before s) _ h;
+      role = and_left (has_role topology s one) _ behind;
+      current = and_left (is_current before s slot) _ rest;
+      handled = and_right (is_current before s slot) _ rest;
+    }
+
+abbrev pub DoneFacts : Topology → History → StageNo → List Reply → Type 0
+DoneFacts topology before s replies = AnswerFacts topology before s is_processor_role 0 (are_handled (spec_of topology s) (count topology before s) (chunk_of topology before s) replies)
 
 pub done_facts : (topology : Topology) (before : History) (s : StageNo) (replies : List Reply) → allows topology before (Done s replies) ≡ true → DoneFacts topology before s replies
-done_facts topology before s replies h =
-    let all = unowed topology before (Done s replies) (λ t. refl) (λ t. refl) h in
-    let one = and_right (is_live topology before s) _ all in
-    let two = and_right (has_role topology s is_processor_role) _ one in
-    record {
-      live = and_left (is_live topology before s) _ all;
-      role = and_left (has_role topology s is_processor_role) _ one;
-      current = and_left (is_current before s 0) _ two;
-      handled = and_right (is_current before s 0) _ two;
-    }
+done_facts topology before s replies h = answer_facts topology before s is_processor_role 0 _ (unowed topology before (Done s replies) (λ t. refl) (λ t. refl) h)
 
-pub record WroteFacts (topology : Topology) (before : History) (s : StageNo) (bytes : ℕ) (end : BatchEnd) : Type 0 where
-  pub live : is_live topology before s ≡ true
-  pub role : has_role topology s is_batch_processor_role ≡ true
-  pub current : is_current before s 0 ≡ true
-  pub handled : ends_batch topology before s bytes end ≡ true
+abbrev pub WroteFacts : Topology → History → StageNo → ℕ → BatchEnd → Type 0
+WroteFacts topology before s bytes end = AnswerFacts topology before s is_batch_processor_role 0 (ends_batch topology before s bytes end)
 
 pub wrote_facts : (topology : Topology) (before : History) (s : StageNo) (bytes : ℕ) (end : BatchEnd) → allows topology before (Wrote s bytes end) ≡ true → WroteFacts topology before s bytes end
-wrote_facts topology before s bytes end h =
-    let all = unowed topology before (Wrote s bytes end) (λ t. refl) (λ t. refl) h in
-    let one = and_right (is_live topology before s) _ all in
-    let two = and_right (has_role topology s is_batch_processor_role) _ one in
-    record {
-      live = and_left (is_live topology before s) _ all;
-      role = and_left (has_role topology s is_batch_processor_role) _ one;
-      current = and_left (is_current before s 0) _ two;
-      handled = and_right (is_current before s 0) _ two;
-    }
+wrote_facts topology before s bytes end h = answer_facts topology before s is_batch_processor_role 0 _ (unowed topology before (Wrote s bytes end) (λ t. refl) (λ t. refl) h)
+
+abbrev pub ChildEndFacts : Topology → History → StageNo → ℕ → Reply → Type 0
+ChildEndFacts topology before s slot reply = AnswerFacts topology before s is_supervisor_role slot (are_handled (spec_of topology s) 0 (child_of before s slot) (reply ∷ []))
+
+pub child_end_facts : (topology : Topology) (before : History) (s : StageNo) (slot : ℕ) (reply : Reply) → allows topology before (ChildEnd s slot reply) ≡ true → ChildEndFacts topology before s slot reply
+child_end_facts topology before s slot reply h = answer_facts topology before s is_supervisor_role slot _ (unowed topology before (ChildEnd s slot reply) (λ t. refl) (λ t. refl) h)
 
 pub record GatherFacts (topology : Topology) (before : History) (s : StageNo) (n : ℕ) : Type 0 where
   pub live : is_live topology before s ≡ true
@@ -171,24 +172,6 @@ child_facts topology before s m slot h =
     new_if true x y e h = cc
     new_if false x y e h =
         (leb-true 1 m.0 (and_left (nat_le 1 m.0) _ h), eqb-true m.0 _ (and_right y _ (and_right (nat_le 1 m.0) _ h)))
-
-pub record ChildEndFacts (topology : Topology) (before : History) (s : StageNo) (slot : ℕ) (reply : Reply) : Type 0 where
-  pub live : is_live topology before s ≡ true
-  pub role : has_role topology s is_supervisor_role ≡ true
-  pub current : is_current before s slot ≡ true
-  pub handled : are_handled (spec_of topology s) 0 (child_of before s slot) (reply ∷ []) ≡ true
-
-pub child_end_facts : (topology : Topology) (before : History) (s : StageNo) (slot : ℕ) (reply : Reply) → allows topology before (ChildEnd s slot reply) ≡ true → ChildEndFacts topology before s slot reply
-child_end_facts topology before s slot reply h =
-    let all = unowed topology before (ChildEnd s slot reply) (λ t. refl) (λ t. refl) h in
-    let one = and_right (is_live topology before s) _ all in
-    let two = and_right (has_role topology s is_supervisor_role) _ one in
-    record {
-      live = and_left (is_live topology before s) _ all;
-      role = and_left (has_role topology s is_supervisor_role) _ one;
-      current = and_left (is_current before s slot) _ two;
-      handled = and_right (is_current before s slot) _ two;
-    }
 
 -- the stages whose steps are legal are live
 pub accept_live : (topology : Topology) (before : History) (s : StageNo) (records : List (List ℕ)) → allows topology before (Accept s records) ≡ true → is_live topology before s ≡ true

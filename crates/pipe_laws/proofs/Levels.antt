@@ -8,6 +8,7 @@ use Rattle.pipe_types.specs.declared.topology.Role.{Role}
 use Rattle.pipe_types.specs.declared.topology.Role.TheVariants.{Producer, Processor, Supervisor, Batcher, BatchProcessor}
 use Rattle.pipe_types.specs.declared.message.Place.{Place}
 use Rattle.pipe_types.specs.declared.message.Place.TheVariants.{Waiting, Inbox, Running, Gathered, Acked, Lost}
+use Rattle.pipe_types.specs.Sound.{is_next}
 use Rattle.pipe_types.specs.Stages.{feeds, spec_of, role_feeds, option_feeds}
 use Rattle.pipe_types.specs.declared.step.Step.{Step}
 use Rattle.pipe_model.specs.History.{History}
@@ -32,6 +33,16 @@ rank topology s = rank_in (spec_of topology s)
 rank_of_most : (role : Role) → rank_of role ≤ 3
 rank_of_most Producer = omega arith
 rank_of_most _ = omega arith
+
+-- a stage is followed by one that stands no higher
+pub next_rank : (a b : Role) (x y : StageSpec) → is_next a b x y ≡ true → rank_of a ≤ rank_of b
+next_rank Producer b x y h = omega arith
+next_rank Processor Processor x y h = omega arith
+next_rank Processor Batcher x y h = omega arith
+next_rank Batcher Batcher x y h = omega arith
+next_rank Batcher BatchProcessor x y h = omega arith
+next_rank BatchProcessor BatchProcessor x y h = omega arith
+next_rank _ _ x y h = cc
 
 rank_in_most : (o : Option StageSpec) → rank_in o ≤ 3
 rank_in_most None = omega arith

@@ -25,6 +25,7 @@ pub mod Ledgers
 pub mod Progress
 pub mod Ends
 pub mod Acknowledged
+pub mod Carried
 pub mod Lossless
 pub mod HandlerReplies
 pub mod Outcomes

@@ -1,6 +1,6 @@
 -- What holds of each element of a list, and how many elements pass a test.
-use Rattle.std.proofs.Common.{◌≡◌, ℕ, zero, suc, ◌+◌, ◌≤◌, List, [], ◌∷◌, ◌++◌, map, length, take, Bool, true, false, refl, ap, sym, ◌∙◌, subst, arith}
-use Rattle.std.specs.Prelude.{if◌then◌else◌, ◌==◌, ◌||◌, cond, filter}
+use Rattle.std.proofs.Common.{◌≡◌, ℕ, zero, suc, ◌+◌, ◌≤◌, List, [], ◌∷◌, ◌++◌, map, length, take, Bool, true, false, refl, ap, sym, ◌∙◌, subst, Some, add-one, arith}
+use Rattle.std.specs.Prelude.{if◌then◌else◌, ◌==◌, ◌||◌, cond, filter, slice_get}
 use Rattle.std.proofs.lemmas.Bool.{eqb-true, eq-eqb}
 use Rattle.pipe_laws.proofs.Tests.{clash}
 use Rattle.pipe_model.specs.Flow.{among}
@@ -152,3 +152,12 @@ weigh_taken zs (y ∷ ys) (suc k) le h =
     let rest : k ≤ weigh (λ n. as_number (among zs n)) ys = weigh_taken zs ys k (omega arith) h.1 in
     let one : as_number (among zs y) ≡ 1 = ap as_number h.0 in
     omega arith
+
+take_suc : {A : Type 0} (xs : List A) (n : ℕ) (x : A) → slice_get xs n ≡ Some x → take (suc n) xs ≡ take n xs ++ x ∷ []
+take_suc [] n x e = cc
+take_suc (y ∷ xs) zero x e = let is : y ≡ x = cc in ap (λ z. z ∷ []) is
+take_suc (y ∷ xs) (suc n) x e = ap (λ z. y ∷ z) (take_suc xs n x e)
+
+-- the first of a list, with one more
+pub take_next : {A : Type 0} (xs : List A) (n : ℕ) (x : A) → slice_get xs n ≡ Some x → take (n + 1) xs ≡ take n xs ++ x ∷ []
+take_next xs n x e = rw add-one (take_suc xs n x e)

@@ -1,11 +1,11 @@
 -- A journal that loses nothing has no lost message, and where it is drained acknowledges every message once.
 use Rattle.std.proofs.Common.{◌≡◌, ℕ, ◌+◌, List, [], ◌∷◌, Bool, true, false, refl, ap, sym, ◌∙◌, Some, None, Option}
-use Rattle.std.specs.Prelude.{if◌then◌else◌, not, ◌==◌, ◌&&◌, ◌||◌, option_map, slice_get}
+use Rattle.std.specs.Prelude.{if◌then◌else◌, not, ◌==◌, ◌&&◌, ◌||◌, option_map}
 use Rattle.pipe_types.specs.declared.numbers.SubNo.{SubNo}
 use Rattle.pipe_types.specs.declared.numbers.StageNo.{StageNo}
 use Rattle.pipe_types.specs.declared.topology.Topology.{Topology}
 use Rattle.pipe_types.specs.declared.message.Outcome.{Outcome}
-use Rattle.pipe_types.specs.declared.message.Outcome.TheVariants.{Successful, Failed}
+use Rattle.pipe_types.specs.declared.message.Outcome.TheVariants.{Successful}
 use Rattle.pipe_types.specs.declared.message.Place.{Place}
 use Rattle.pipe_types.specs.declared.message.Place.TheVariants.{Waiting, Inbox, Running, Gathered, InBatch, Acked, Lost}
 use Rattle.pipe_types.specs.declared.message.BatchEnd.TheVariants.{Outcomes}
@@ -20,16 +20,17 @@ use Rattle.pipe_types.specs.Stages.{spec_of}
 use Rattle.pipe_types.specs.Sound.{IsSound}
 use Rattle.pipe_model.specs.History.{History, closed}
 use Rattle.pipe_model.specs.Posts.{in_slot, crashes}
-use Rattle.pipe_model.specs.Content.{has_crash, is_among_next}
+use Rattle.pipe_model.specs.Content.{has_crash}
 use Rattle.pipe_model.specs.Lives.{death, death_after, restarts}
 use Rattle.pipe_model.specs.Batches.{Batch, BatchPlace, AtBatcher, Sent, Dropped, Leg, LegPlace, InInbox, AtWork, Answered, LegLost, is_settled, settled_as, lost_leg, failed_leg, place_by_batch, on_legs, leg_taken, leg_answered, new_legs, batch_sent, batch_on_legs}
-use Rattle.pipe_model.specs.Flow.{place, batch, view_of, among, alone, is_empty, sends_by, subs_of, lost_over, dispatched, waiting_after, taken, done, answered, reply_to, gathered, put_in_batch, by_batch, place_in_batch, child_ended, child_place, runs_again, is_number, accepted_to, late_place, change_place, new_batch, next_units, closing}
+use Rattle.pipe_model.specs.Flow.{place, batch, view_of, among, alone, is_empty, sends_by, subs_of, lost_over, dispatched, waiting_after, done, answered, reply_to, by_batch, place_in_batch, child_ended, child_place, runs_again, is_number, late_place, change_place, new_batch, next_units, closing}
 use Rattle.pipe_model.specs.Ledger.{crashed_reply, crashes_of}
 use Rattle.pipe_model.specs.Legal.{is_legal, happened, is_halt}
 use Rattle.pipe_model.specs.Moves.{is_final}
 use Rattle.pipe_model.specs.Acknowledgements.{is_lossless, loses, acknowledgements}
 use Rattle.pipe_model.specs.Claims.{AcknowledgesEverything, times_in_all}
 use Rattle.pipe_laws.proofs.Tests.{and_left, and_right, both, not_true}
+use Rattle.pipe_laws.proofs.Carried.{failed_as, mapped_clear, accepted_clear, taken_clear, done_clear, gathered_clear, joined_clear, on_legs_clear, sent_clear}
 use Rattle.pipe_laws.proofs.Slots.{number_is}
 use Rattle.pipe_laws.proofs.Ends.{leaves_nothing}
 use Rattle.pipe_laws.proofs.Acknowledged.{acknowledged_once}
@@ -99,30 +100,9 @@ answered_keeps s outcomes u AtWork h = by_stage (same_stage s u.consumer)
 answered_keeps s outcomes u (Answered o) h = refl
 answered_keeps s outcomes u (LegLost l) h = h
 
-on_legs_keeps : (change : SubNo → LegPlace → LegPlace) → ((u : SubNo) (p : LegPlace) → not (is_leg_lost p) ≡ true → not (is_leg_lost (change u p)) ≡ true) → (p : BatchPlace) → place_kept p ≡ true → place_kept (batch_on_legs change p) ≡ true
-on_legs_keeps change keeps (AtBatcher s) h = refl
-on_legs_keeps change keeps (Sent legs) h = kept_on_legs change keeps legs h
-on_legs_keeps change keeps (Dropped l) h = h
-
 new_kept : (subs : List SubNo) → legs_kept (new_legs subs) ≡ true
 new_kept [] = refl
 new_kept (u ∷ subs) = new_kept subs
-
-sent_keeps : (s : StageNo) (is_alone : Bool) (subs : List SubNo) (p : BatchPlace) → place_kept p ≡ true → place_kept (batch_sent s is_alone subs p) ≡ true
-sent_keeps s is_alone [] (AtBatcher t) h = by_stage (is_alone && same_stage s t)
-  where
-    by_stage : (b : Bool) → place_kept (if b then Sent [] else AtBatcher t) ≡ true
-    by_stage true = refl
-    by_stage false = refl
-sent_keeps s is_alone [] (Sent legs) h = h
-sent_keeps s is_alone [] (Dropped l) h = h
-sent_keeps s is_alone (u ∷ subs) (AtBatcher t) h = by_stage (same_stage s t)
-  where
-    by_stage : (b : Bool) → place_kept (if b then Sent (new_legs (u ∷ subs)) else AtBatcher t) ≡ true
-    by_stage true = new_kept (u ∷ subs)
-    by_stage false = refl
-sent_keeps s is_alone (u ∷ subs) (Sent legs) h = h
-sent_keeps s is_alone (u ∷ subs) (Dropped l) h = h
 
 kept_mapped : (change : BatchPlace → BatchPlace) → ((p : BatchPlace) → place_kept p ≡ true → place_kept (change p) ≡ true) → (o : Option Batch) → batch_kept o ≡ true → batch_kept (option_map (λ x. change_place x (change x.place)) o) ≡ true
 kept_mapped change keeps None h = refl
@@ -140,15 +120,15 @@ batches_kept topology (Close s first trigger ∷ before) b h =
     either numbers true old = refl
     either numbers false old = old
 batches_kept topology (Dispatch s ∷ before) b h =
-    kept_mapped (batch_sent s (among (alone topology before s) b) (subs_of (sends_by topology before (view_of topology before) s) b)) (sent_keeps s _ _) (batch topology before b) (batches_kept topology before b (lossless_before topology before (Dispatch s) h))
+    kept_mapped (batch_sent s (among (alone topology before s) b) (subs_of (sends_by topology before (view_of topology before) s) b)) (sent_clear place_kept new_kept s _ _) (batch topology before b) (batches_kept topology before b (lossless_before topology before (Dispatch s) h))
 batches_kept topology (Take s u k ∷ before) b h =
     either (among (next_units topology (view_of topology before) s u k) b) (batch topology before b) (batches_kept topology before b (lossless_before topology before (Take s u k) h))
   where
     either : (t : Bool) (o : Option Batch) → batch_kept o ≡ true → batch_kept (if t then option_map (λ x. change_place x (batch_on_legs (leg_taken s) x.place)) o else o) ≡ true
-    either true o h = kept_mapped (batch_on_legs (leg_taken s)) (on_legs_keeps (leg_taken s) (taken_keeps s)) o h
+    either true o h = kept_mapped (batch_on_legs (leg_taken s)) (on_legs_clear place_kept (leg_taken s) (kept_on_legs (leg_taken s) (taken_keeps s))) o h
     either false o h = h
 batches_kept topology (Wrote s bytes (Outcomes outcomes) ∷ before) b h =
-    kept_mapped (batch_on_legs (leg_answered s outcomes)) (on_legs_keeps (leg_answered s outcomes) (answered_keeps s outcomes)) (batch topology before b) (batches_kept topology before b (lossless_before topology before (Wrote s bytes (Outcomes outcomes)) h))
+    kept_mapped (batch_on_legs (leg_answered s outcomes)) (on_legs_clear place_kept (leg_answered s outcomes) (kept_on_legs (leg_answered s outcomes) (answered_keeps s outcomes))) (batch topology before b) (batches_kept topology before b (lossless_before topology before (Wrote s bytes (Outcomes outcomes)) h))
 batches_kept topology (step ∷ before) b h = batches_kept topology before b (lossless_before topology before step h)
 
 -- Places
@@ -162,17 +142,7 @@ no_lost_leg (leg ∷ legs) h = by_place leg.sub leg.place (and_left (not (is_leg
     by_place u _ h rest = rest
 
 failed_kept : (legs : List Leg) (i : ℕ) → is_lost (Some (settled_as None (failed_leg legs i))) ≡ false
-failed_kept [] i = refl
-failed_kept (leg ∷ legs) i = by_place leg.sub leg.place (failed_kept legs i)
-  where
-    by_outcome : (u : SubNo) (outcomes : List Outcome) (o : Option Outcome) → slice_get outcomes i ≡ o → is_lost (Some (settled_as None (failed_leg legs i))) ≡ false → is_lost (Some (settled_as None (failed_leg (record { sub = u; place = Answered outcomes } ∷ legs) i))) ≡ false
-    by_outcome u outcomes (Some (Failed why)) e h = rw e refl
-    by_outcome u outcomes (Some Successful) e h = rw e h
-    by_outcome u outcomes None e h = rw e h
-
-    by_place : (u : SubNo) (p : LegPlace) → is_lost (Some (settled_as None (failed_leg legs i))) ≡ false → is_lost (Some (settled_as None (failed_leg (record { sub = u; place = p } ∷ legs) i))) ≡ false
-    by_place u (Answered outcomes) h = by_outcome u outcomes (slice_get outcomes i) refl h
-    by_place u _ h = h
+failed_kept = failed_as (λ p. is_lost (Some p) ≡ false) refl (λ why. refl)
 
 batch_leaves : (b : ℕ) (o : Option Batch) (n : ℕ) → batch_kept o ≡ true → is_lost (Some (place_in_batch b o n)) ≡ false
 batch_leaves b None n h = refl
@@ -186,18 +156,6 @@ batch_leaves b (Some x) n h = by_place x.place _ h
     by_place (AtBatcher s) i h = refl
     by_place (Sent legs) i h = by_settled legs i h (is_settled legs)
     by_place (Dropped l) i h = cc
-
-mapped_kept : (f : Place → Place) → ((p : Place) → is_lost (Some p) ≡ false → is_lost (Some (f p)) ≡ false) → (o : Option Place) → is_lost o ≡ false → is_lost (option_map f o) ≡ false
-mapped_kept f keeps None h = refl
-mapped_kept f keeps (Some p) h = keeps p h
-
-accepted_kept : (from count n : ℕ) (p : Place) (old : Option Place) → is_lost (Some p) ≡ false → is_lost old ≡ false → is_lost (accepted_to from count p n old) ≡ false
-accepted_kept from count n p (Some q) new h = h
-accepted_kept from count n p None new h = either (is_among_next from count n)
-  where
-    either : (b : Bool) → is_lost (if b then Some p else None) ≡ false
-    either true = new
-    either false = refl
 
 dispatched_kept : (units : List SentUnit) (over alone : List ℕ) (s : StageNo) (n : ℕ) → is_empty over ≡ true → (p : Place) → is_lost (Some p) ≡ false → is_lost (Some (dispatched units over alone s n p)) ≡ false
 dispatched_kept units [] alone s n empty (Waiting t) h = by_stage (same_stage s t) (subs_of units n)
@@ -218,15 +176,6 @@ dispatched_kept units [] alone s n empty (InBatch b) h = either (among alone b.0
 dispatched_kept units [] alone s n empty (Acked o) h = refl
 dispatched_kept units [] alone s n empty (Lost l) h = h
 
-taken_kept : (chunk : List ℕ) (s : StageNo) (n : ℕ) (p : Place) → is_lost (Some p) ≡ false → is_lost (Some (taken chunk s n p)) ≡ false
-taken_kept chunk s n (Inbox u) h = either (same_stage s u.consumer && among chunk n)
-  where
-    either : (b : Bool) → is_lost (Some (if b then Running s else Inbox u)) ≡ false
-    either true = refl
-    either false = refl
-taken_kept chunk s n (Lost l) h = h
-taken_kept chunk s n _ h = refl
-
 answered_kept : (b : Bool) (s : StageNo) (reply : Option Reply) → is_lost (Some (answered b s reply)) ≡ false
 answered_kept true s (Some (Pass m)) = refl
 answered_kept false s (Some (Pass m)) = refl
@@ -240,31 +189,7 @@ answered_kept true s None = refl
 answered_kept false s None = refl
 
 done_kept : (b : Bool) (chunk : List ℕ) (replies : List Reply) (s : StageNo) (n : ℕ) (p : Place) → is_lost (Some p) ≡ false → is_lost (Some (done b chunk replies s n p)) ≡ false
-done_kept b chunk replies s n (Running t) h = either (same_stage s t)
-  where
-    either : (a : Bool) → is_lost (Some (if a then answered b s (reply_to chunk replies n) else Running t)) ≡ false
-    either true = answered_kept b s (reply_to chunk replies n)
-    either false = refl
-done_kept b chunk replies s n (Lost l) h = h
-done_kept b chunk replies s n _ h = refl
-
-gathered_kept : (s : StageNo) (m n : ℕ) (p : Place) → is_lost (Some p) ≡ false → is_lost (Some (gathered s m n p)) ≡ false
-gathered_kept s m n (Inbox u) h = either (same_stage s u.consumer && m == n)
-  where
-    either : (b : Bool) → is_lost (Some (if b then Gathered s else Inbox u)) ≡ false
-    either true = refl
-    either false = refl
-gathered_kept s m n (Lost l) h = h
-gathered_kept s m n _ h = refl
-
-joined_kept : (numbers : List ℕ) (s : StageNo) (b n : ℕ) (p : Place) → is_lost (Some p) ≡ false → is_lost (Some (put_in_batch numbers s b n p)) ≡ false
-joined_kept numbers s b n (Gathered t) h = either (same_stage s t && among numbers n)
-  where
-    either : (a : Bool) → is_lost (Some (if a then InBatch (batch_no b) else Gathered t)) ≡ false
-    either true = refl
-    either false = refl
-joined_kept numbers s b n (Lost l) h = h
-joined_kept numbers s b n _ h = refl
+done_kept b chunk replies s n = done_clear is_lost b chunk replies s n (answered_kept b s (reply_to chunk replies n))
 
 by_batch_kept : (after : ℕ → Option Batch) (n : ℕ) → ((b : ℕ) → batch_kept (after b) ≡ true) → (p : Place) → is_lost (Some p) ≡ false → is_lost (Some (by_batch after n p)) ≡ false
 by_batch_kept after n kept (InBatch b) h = batch_leaves b.0 (after b.0) n (kept b.0)
@@ -293,30 +218,30 @@ pub none_lost : (topology : Topology) (before : History) (n : ℕ) → is_lossle
 none_lost topology [] n h = refl
 none_lost topology (Kill t why ∷ before) n h = let x : true ≡ false = keeps_all topology before (Kill t why) h in cc
 none_lost topology (Halt ∷ before) n h = let x : true ≡ false = keeps_all topology before Halt h in cc
-none_lost topology (Accept s records ∷ before) n h = accepted_kept _ _ n (Waiting s) (place topology before n) refl (none_lost topology before n (lossless_before topology before (Accept s records) h))
+none_lost topology (Accept s records ∷ before) n h = accepted_clear is_lost _ _ n (Waiting s) (place topology before n) refl (none_lost topology before n (lossless_before topology before (Accept s records) h))
 none_lost topology (Late s slot i (Records records) ∷ before) n h =
-    accepted_kept _ _ n (late_place s i (death topology before s)) (place topology before n) (ap (λ w. is_lost (Some (late_place s i w))) (no_death topology before s (lossless_before topology before (Late s slot i (Records records)) h)))
+    accepted_clear is_lost _ _ n (late_place s i (death topology before s)) (place topology before n) (ap (λ w. is_lost (Some (late_place s i w))) (no_death topology before s (lossless_before topology before (Late s slot i (Records records)) h)))
     (none_lost topology before n (lossless_before topology before (Late s slot i (Records records)) h))
 none_lost topology (Dispatch s ∷ before) n h =
-    mapped_kept _ (dispatched_kept _ (lost_over topology before (view_of topology before) s) _ s n (not_not (is_empty (lost_over topology before (view_of topology before) s)) (keeps_all topology before (Dispatch s) h))) (place topology before n) (none_lost topology before n (lossless_before topology before (Dispatch s) h))
+    mapped_clear is_lost _ (dispatched_kept _ (lost_over topology before (view_of topology before) s) _ s n (not_not (is_empty (lost_over topology before (view_of topology before) s)) (keeps_all topology before (Dispatch s) h))) (place topology before n) (none_lost topology before n (lossless_before topology before (Dispatch s) h))
   where
     not_not : (b : Bool) → not b ≡ false → b ≡ true
     not_not true e = refl
     not_not false e = cc
-none_lost topology (Take s u k ∷ before) n h = mapped_kept _ (taken_kept _ s n) (place topology before n) (none_lost topology before n (lossless_before topology before (Take s u k) h))
+none_lost topology (Take s u k ∷ before) n h = mapped_clear is_lost _ (taken_clear is_lost _ s n refl) (place topology before n) (none_lost topology before n (lossless_before topology before (Take s u k) h))
 none_lost topology (Done s replies ∷ before) n h = either (has_crash replies) _ (done_kept _ _ replies s n) (none_lost topology before n (lossless_before topology before (Done s replies) h))
   where
     either : (b : Bool) (f : Place → Place) → ((p : Place) → is_lost (Some p) ≡ false → is_lost (Some (f p)) ≡ false) → is_lost (place topology before n) ≡ false → is_lost (if b then place topology before n else option_map f (place topology before n)) ≡ false
     either true f keeps old = old
-    either false f keeps old = mapped_kept f keeps (place topology before n) old
-none_lost topology (Gather s m ∷ before) n h = mapped_kept _ (gathered_kept s m.0 n) (place topology before n) (none_lost topology before n (lossless_before topology before (Gather s m) h))
-none_lost topology (Close s first trigger ∷ before) n h = mapped_kept _ (joined_kept _ s _ n) (place topology before n) (none_lost topology before n (lossless_before topology before (Close s first trigger) h))
+    either false f keeps old = mapped_clear is_lost f keeps (place topology before n) old
+none_lost topology (Gather s m ∷ before) n h = mapped_clear is_lost _ (gathered_clear is_lost s m.0 n refl) (place topology before n) (none_lost topology before n (lossless_before topology before (Gather s m) h))
+none_lost topology (Close s first trigger ∷ before) n h = mapped_clear is_lost _ (joined_clear is_lost _ s _ n refl) (place topology before n) (none_lost topology before n (lossless_before topology before (Close s first trigger) h))
 none_lost topology (Wrote s bytes end ∷ before) n h =
-    mapped_kept (by_batch (batch topology (Wrote s bytes end ∷ before)) n) (by_batch_kept (batch topology (Wrote s bytes end ∷ before)) n (λ b. batches_kept topology (Wrote s bytes end ∷ before) b h)) (place topology before n)
+    mapped_clear is_lost (by_batch (batch topology (Wrote s bytes end ∷ before)) n) (by_batch_kept (batch topology (Wrote s bytes end ∷ before)) n (λ b. batches_kept topology (Wrote s bytes end ∷ before) b h)) (place topology before n)
     (none_lost topology before n (lossless_before topology before (Wrote s bytes end) h))
-none_lost topology (Child s m slot ∷ before) n h = mapped_kept _ (taken_kept (m.0 ∷ []) s n) (place topology before n) (none_lost topology before n (lossless_before topology before (Child s m slot) h))
+none_lost topology (Child s m slot ∷ before) n h = mapped_clear is_lost _ (taken_clear is_lost (m.0 ∷ []) s n refl) (place topology before n) (none_lost topology before n (lossless_before topology before (Child s m slot) h))
 none_lost topology (ChildEnd s slot reply ∷ before) n h =
-    mapped_kept _
+    mapped_clear is_lost _
     (ended_kept (runs_again (spec_of topology s) (crashes before n)) (in_slot before s slot) s _ reply n
     (λ mine. ap (λ o. crashed_reply reply && not (runs_again (spec_of topology s) (crashes_of before o))) (sym (number_is (in_slot before s slot) n mine)) ∙ keeps_all topology before (ChildEnd s slot reply) h))
     (place topology before n) (none_lost topology before n (lossless_before topology before (ChildEnd s slot reply) h))

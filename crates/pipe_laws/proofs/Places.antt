@@ -1,13 +1,12 @@
 -- How a step may move a message.
 use Rattle.std.proofs.Common.{◌≡◌, ℕ, List, [], ◌∷◌, Bool, true, false, refl, sym, subst, Some, None, Option}
-use Rattle.std.specs.Prelude.{option_map, if◌then◌else◌, ◌==◌, ◌&&◌, slice_get, filter}
+use Rattle.std.specs.Prelude.{option_map, if◌then◌else◌, ◌==◌, ◌&&◌, filter}
 use Rattle.pipe_types.specs.declared.numbers.SubNo.{SubNo}
 use Rattle.pipe_types.specs.declared.numbers.StageNo.{StageNo}
 use Rattle.pipe_types.specs.declared.numbers.BatchNo.{BatchNo}
 use Rattle.pipe_types.specs.declared.topology.Topology.{Topology}
 use Rattle.pipe_types.specs.declared.topology.StageSpec.{StageSpec}
-use Rattle.pipe_types.specs.declared.message.Outcome.{Outcome}
-use Rattle.pipe_types.specs.declared.message.Outcome.TheVariants.{Successful, Failed}
+use Rattle.pipe_types.specs.declared.message.Outcome.TheVariants.{Successful}
 use Rattle.pipe_types.specs.declared.message.Loss.{Loss}
 use Rattle.pipe_types.specs.declared.message.Loss.TheVariants.{Overflow}
 use Rattle.pipe_types.specs.declared.message.Why.{Why}
@@ -25,11 +24,12 @@ use Rattle.pipe_types.specs.Numbers.{same_stage, batch_no}
 use Rattle.pipe_types.specs.Stages.{feeds}
 use Rattle.pipe_model.specs.History.{History}
 use Rattle.pipe_model.specs.Content.{has_crash, is_among_next}
-use Rattle.pipe_model.specs.Batches.{Batch, BatchPlace, AtBatcher, Sent, Dropped, Leg, LegPlace, Answered, LegLost, is_settled, settled_as, lost_leg, failed_leg, place_by_batch}
+use Rattle.pipe_model.specs.Batches.{Batch, BatchPlace, AtBatcher, Sent, Dropped, Leg, LegPlace, LegLost, is_settled, settled_as, lost_leg, failed_leg, place_by_batch}
 use Rattle.pipe_model.specs.Lives.{KillSet, reason_in, is_live, current_sub, live_subs, live_subs_from, death}
 use Rattle.pipe_model.specs.Flow.{place, view_of, batch, among, sends_by, rooms_by, waiting_by, subs_of, dispatched, waiting_after, taken, done, answered, reply_to, gathered, put_in_batch, by_batch, place_in_batch, killed, lost_with, child_ended, child_place, accepted_to, late_place, is_number}
 use Rattle.pipe_model.specs.Moves.{is_final}
 use Rattle.pipe_laws.proofs.Tests.{and_left, and_right, same_stage-true, same_stage-self}
+use Rattle.pipe_laws.proofs.Carried.{failed_as}
 use Rattle.pipe_laws.proofs.Lists.{Each, each-append, each_weaker, each_filter, each_map, each_always}
 
 -- the subscription is a live one on the stage
@@ -112,17 +112,7 @@ pub data Move (topology : Topology) (before : History) (step : Step) : Option Pl
 
 -- a settled batch leaves its messages settled
 failed_final : (legs : List Leg) (i : ℕ) → is_final (Some (settled_as None (failed_leg legs i))) ≡ true
-failed_final [] i = refl
-failed_final (leg ∷ legs) i = by_place leg.sub leg.place (failed_final legs i)
-  where
-    by_outcome : (u : SubNo) (outcomes : List Outcome) (o : Option Outcome) → slice_get outcomes i ≡ o → is_final (Some (settled_as None (failed_leg legs i))) ≡ true → is_final (Some (settled_as None (failed_leg (record { sub = u; place = Answered outcomes } ∷ legs) i))) ≡ true
-    by_outcome u outcomes (Some (Failed why)) e h = rw e refl
-    by_outcome u outcomes (Some Successful) e h = rw e h
-    by_outcome u outcomes None e h = rw e h
-
-    by_place : (u : SubNo) (p : LegPlace) → is_final (Some (settled_as None (failed_leg legs i))) ≡ true → is_final (Some (settled_as None (failed_leg (record { sub = u; place = p } ∷ legs) i))) ≡ true
-    by_place u (Answered outcomes) h = by_outcome u outcomes (slice_get outcomes i) refl h
-    by_place u _ h = h
+failed_final = failed_as (λ p. is_final (Some p) ≡ true) refl (λ why. refl)
 
 lost_final : (legs : List Leg) (failed : Option Place) → is_final (Some (settled_as None failed)) ≡ true → is_final (Some (settled_as (lost_leg legs) failed)) ≡ true
 lost_final [] failed h = h

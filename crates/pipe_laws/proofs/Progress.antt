@@ -83,12 +83,12 @@ progress_mapped : (change : BatchPlace → BatchPlace) → ((p : BatchPlace) →
 progress_mapped change keeps None h = h
 progress_mapped change keeps (Some x) h = keeps x.place h
 
-progress_exists : (o : Option Batch) → in_progress o ≡ true → is_some o ≡ true
+pub progress_exists : (o : Option Batch) → in_progress o ≡ true → is_some o ≡ true
 progress_exists None h = h
 progress_exists (Some x) h = refl
 
 -- a place in a batch comes from the same place, where the step closes none
-in_batch_before : (topology : Topology) (before : History) (step : Step) (b : BatchNo) (p q : Option Place) → Move topology before step p q → closes step ≡ false → q ≡ Some (InBatch b) → p ≡ Some (InBatch b)
+pub in_batch_before : (topology : Topology) (before : History) (step : Step) (b : BatchNo) (p q : Option Place) → Move topology before step p q → closes step ≡ false → q ≡ Some (InBatch b) → p ≡ Some (InBatch b)
 in_batch_before topology before step b p q stays c e = e
 in_batch_before topology before step b p q (comes s) c e = cc
 in_batch_before topology before step b p q (comes_lost l) c e = cc

@@ -160,26 +160,29 @@ pub is_some_map : {A B : Type 0} (f : A → B) (o : Option A) → is_some (optio
 is_some_map f None h = h
 is_some_map f (Some x) h = refl
 
--- a batch that stands was closed
-pub batch_closed : (topology : Topology) (before : History) (b : ℕ) → is_some (batch topology before b) ≡ true → b ≤ closed before
-batch_closed topology [] b h = cc
-batch_closed topology (Close s first trigger ∷ before) b h =
-    either (closing before (view_of topology before) s first.0) (b == closed before + 1) refl h (batch_closed topology before b)
+-- a batch that stands has a number from 1, and was closed
+pub batch_within : (topology : Topology) (before : History) (b : ℕ) → is_some (batch topology before b) ≡ true → (1 ≤ b) × (b ≤ closed before)
+batch_within topology [] b h = (cc, cc)
+batch_within topology (Close s first trigger ∷ before) b h =
+    either (closing before (view_of topology before) s first.0) (b == closed before + 1) refl h (batch_within topology before b)
   where
-    either : (numbers : List ℕ) (t : Bool) → (b == closed before + 1) ≡ t → is_some (new_batch t numbers s (batch topology before b)) ≡ true → (is_some (batch topology before b) ≡ true → b ≤ closed before) → b ≤ closed before + 1
-    either numbers true e h rest = let is : b ≡ closed before + 1 = eqb-true b _ e in omega arith
-    either numbers false e h rest = let below : b ≤ closed before = rest h in omega arith
-batch_closed topology (Dispatch s ∷ before) b h = batch_closed topology before b (is_some_map _ (batch topology before b) h)
-batch_closed topology (Take s u k ∷ before) b h =
-    batch_closed topology before b (either (among (next_units topology (view_of topology before) s u k) b) _ (batch topology before b) h)
+    either : (numbers : List ℕ) (t : Bool) → (b == closed before + 1) ≡ t → is_some (new_batch t numbers s (batch topology before b)) ≡ true → (is_some (batch topology before b) ≡ true → (1 ≤ b) × (b ≤ closed before)) → (1 ≤ b) × (b ≤ closed before + 1)
+    either numbers true e h rest = let is : b ≡ closed before + 1 = eqb-true b _ e in (omega arith, omega arith)
+    either numbers false e h rest = let old = rest h in (old.0, omega (arith, old.1))
+batch_within topology (Dispatch s ∷ before) b h = batch_within topology before b (is_some_map _ (batch topology before b) h)
+batch_within topology (Take s u k ∷ before) b h =
+    batch_within topology before b (either (among (next_units topology (view_of topology before) s u k) b) _ (batch topology before b) h)
   where
     either : (t : Bool) (f : Batch → Batch) (o : Option Batch) → is_some (if t then option_map f o else o) ≡ true → is_some o ≡ true
     either true f o h = is_some_map f o h
     either false f o h = h
-batch_closed topology (Wrote s bytes (Outcomes outcomes) ∷ before) b h = batch_closed topology before b (is_some_map _ (batch topology before b) h)
-batch_closed topology (Kill s why ∷ before) b h = batch_closed topology before b (is_some_map _ (batch topology before b) h)
-batch_closed topology (Halt ∷ before) b h = batch_closed topology before b (is_some_map _ (batch topology before b) h)
-batch_closed topology (_ ∷ before) b h = batch_closed topology before b h
+batch_within topology (Wrote s bytes (Outcomes outcomes) ∷ before) b h = batch_within topology before b (is_some_map _ (batch topology before b) h)
+batch_within topology (Kill s why ∷ before) b h = batch_within topology before b (is_some_map _ (batch topology before b) h)
+batch_within topology (Halt ∷ before) b h = batch_within topology before b (is_some_map _ (batch topology before b) h)
+batch_within topology (_ ∷ before) b h = batch_within topology before b h
+
+pub batch_closed : (topology : Topology) (before : History) (b : ℕ) → is_some (batch topology before b) ≡ true → b ≤ closed before
+batch_closed topology before b h = (batch_within topology before b h).1
 
 settled_exists : (o : Option Batch) (i : ℕ) → is_settled_leg (leg_at o i) ≡ true → is_some o ≡ true
 settled_exists None i h = h

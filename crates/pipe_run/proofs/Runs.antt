@@ -1,16 +1,16 @@
 -- What a run and the giving back come to.
-use Rattle.std.proofs.Common.{◌≡◌, ℕ, suc, List, ◌++◌, take, length, Bool, true, false, not, arith, refl, sym, ◌∙◌, subst, inl, inr, Option, Some, None, Result, Ok, Err}
-use Rattle.std.specs.Prelude.{◌⊎◌, IsTrue, IsSome, IsSomeAnd, ◌&&◌, is_ok}
+use Rattle.std.proofs.Common.{◌≡◌, ℕ, suc, List, ◌++◌, take, length, Bool, true, false, arith, refl, sym, ◌∙◌, subst, inl, inr, Option, Some, None, Result, Ok, Err}
+use Rattle.std.specs.Prelude.{◌⊎◌, IsTrue, IsSome, IsSomeAnd, IfOk, OnOk, is_ok}
 use Rattle.std.specs.declared.alloc.AllocError.{AllocError}
 use Rattle.std.proofs.lemmas.List.{append-nil, take_all}
 use Rattle.pipe_types.specs.declared.topology.StageSpec.{StageSpec}
 use Rattle.pipe_types.specs.declared.topology.Topology.{Topology}
 use Rattle.pipe_model.specs.History.{History}
-use Rattle.pipe_model.specs.Legal.{happened, is_drain}
 use Rattle.pipe_model.specs.Moves.{jobs_out}
 use Rattle.stage_bodies.specs.Seen.{SourceSeen, LineSeen, BodySeen}
 use Rattle.run_pipe.specs.Keeping.{KeepsControlOn, KeepsControlPartly}
 use Rattle.run_pipe.proofs.Kept.{kept_partly}
+use Rattle.run_pipe.proofs.Outs.{none_out_at}
 use Rattle.run_pipe.specs.Clocks.{ClockSeen, KeepsClockOn, KeepsClockPartly}
 use Rattle.run_pipe.specs.Ends.{HasEnded, HasMemory}
 use Rattle.run_pipe.specs.Watches.{HasSeen}
@@ -23,24 +23,32 @@ use Rattle.edge_names.specs.Seen.{EdgesSeen}
 use Rattle.edge_names.specs.Controls.{IsBackFirst, IsGivenInPart, first_sources, first_sinks, named_control}
 use Rattle.edge_names.specs.Returned.{AreCalm, GivesOff, KeepsCallbacks, sources_of, sinks_of}
 use Rattle.pipe_run.specs.Steps.{WentOn}
-use Rattle.pipe_run.specs.Whole.{HasCome, IsTimeOf}
+use Rattle.pipe_run.specs.Whole.{HasCome, IsIdleWithin, IsTimeOf}
 
 has_come : (topology : Topology) (before : History) (end : RunEnd) → HasEnded topology before end → HasCome topology before
 has_come topology before Drained h = inl h
 has_come topology before Halted h = inr h
 
-second_false : (a b c : Bool) → (a && (not b && c)) ≡ true → b ≡ false
-second_false true false c h = refl
-second_false true true c h = cc
-second_false false b c h = cc
-
--- no job is out at the end
-none_out : (topology : Topology) (before : History) (end : RunEnd) → HasEnded topology before end → jobs_out topology before ≡ false
-none_out topology before Drained h = second_false (happened is_drain before) (jobs_out topology before) _ h.0
-none_out topology before Halted h = h.1
-
 not_whole : {A : Type 0} → IsTrue false → A
 not_whole w = let x : false ≡ true = w in cc
+
+-- a run that came to its end drained or halted, with no job out
+come : (topology : Topology) (before : History) (r : Result RunEnd AllocError) → IfOk r (HasEnded topology before) → IsTrue (is_ok r) → HasCome topology before
+come topology before (Ok end) h w = has_come topology before end h
+come topology before (Err e) h w = not_whole w
+
+none_out : (topology : Topology) (before : History) (r : Result RunEnd AllocError) → IfOk r (HasEnded topology before) → IsTrue (is_ok r) → jobs_out topology before ≡ false
+none_out topology before (Ok end) h w = none_out_at topology before end h
+none_out topology before (Err e) h w = not_whole w
+
+-- and so what holds of such a run
+when_whole : (r : Result RunEnd AllocError) (A : Type 0) → OnOk r A → IsTrue (is_ok r) → A
+when_whole (Ok end) A h w = h
+when_whole (Err e) A h w = not_whole w
+
+time_of : (r : Result RunEnd AllocError) (before : History) (opened clock : ClockSeen) → KeepsClockOn r before opened clock → IsTimeOf (is_ok r) before opened clock
+time_of (Ok end) before opened clock k = k
+time_of (Err e) before opened clock k = k
 
 partly : {E : Type 0} (r : Result RunEnd E) (before : History) (opened clock : ClockSeen) → KeepsClockOn r before opened clock → KeepsClockPartly before opened clock
 partly (Ok end) before opened clock k = record { latest = omega (arith, k.latest); readings = k.readings; pauses = k.pauses }
@@ -100,35 +108,16 @@ seen_in fits stood failed o r whole topology same steps is ends e h = record { f
 went : (feeds : Feeds) (r : Result RunEnd AllocError) (opened p : PipeState) (topology : Topology) (final : ℕ → Option BodySeen) (old new : EdgesSeen) → HasRun opened p r → topology ≡ p.topology
     → GivesOff (named_control topology.control p.control ++ sources_of feeds topology.stages p.home) (sinks_of feeds topology.stages p.home) old new → IsBackFirst topology.control p.control old new → AreCalm feeds topology.stages p.home → KeepsCallbacks p.home final
     → WentOn feeds (is_ok r) opened.topology p.steps opened.home final opened.control old new opened.clock p.clock
-went feeds (Ok end) opened p topology final old new h same back first calm kept = record {
+went feeds r opened p topology final old new h same back first calm kept = record {
   follows = h.follows;
-  ended = λ w. has_come opened.topology p.steps end h.ended;
-  idle = λ w. h.idle;
-  time = h.clock;
+  ended = come opened.topology p.steps r h.ended;
+  idle = when_whole r (IsIdleWithin opened.topology p.steps) h.idle;
+  time = time_of r p.steps opened.clock p.clock h.clock;
   control = p.control;
-  obeyed = partly_obeyed {E = AllocError} (Ok end) opened.topology p.steps opened.control p.control h.control;
+  obeyed = partly_obeyed r opened.topology p.steps opened.control p.control h.control;
   bodies = p.home;
   keeps = h.keeps;
-  none_out = λ w. none_out opened.topology p.steps end h.ended;
-  stay = h.stay;
-  parts = suc (length opened.topology.stages);
-  more = 0;
-  all = λ w. refl;
-  back = all_back feeds opened.topology p.control p.home old new (back_of feeds topology opened.topology p.control p.home old new (same ∙ h.topology) back);
-  first = subst (λ (t : Topology). IsBackFirst t.control p.control old new) (same ∙ h.topology) first;
-  calm = λ w. calm_of feeds topology opened.topology p.home (same ∙ h.topology) calm;
-  kept = kept;
-}
-went feeds (Err e) opened p topology final old new h same back first calm kept = record {
-  follows = h.follows;
-  ended = λ w. not_whole w;
-  idle = λ w. not_whole w;
-  time = h.clock;
-  control = p.control;
-  obeyed = partly_obeyed {E = AllocError} (Err e) opened.topology p.steps opened.control p.control h.control;
-  bodies = p.home;
-  keeps = h.keeps;
-  none_out = λ w. not_whole w;
+  none_out = none_out opened.topology p.steps r h.ended;
   stay = h.stay;
   parts = suc (length opened.topology.stages);
   more = 0;

@@ -13,7 +13,7 @@ use Rattle.edge_names.specs.Controls.{first_sinks, run_calls}
 use Rattle.edge_names.specs.Returned.{sinks_of}
 use Rattle.edge_names.proofs.Cuts.{rose_after}
 use Rattle.pipe_run.specs.Live.{IsLiveBack}
-use Rattle.pipe_run.specs.Outside.{AreAsked}
+use Rattle.pipe_run.specs.Outside.{AreAsked, IsAllOpen}
 use Rattle.pipe_run.specs.Steps.{IsLiveCut, IsLiveFailed, NotBegun}
 use Rattle.pipe_run.specs.Whole.{HasFailed, HasWanted, IfUnopened, IfWanting}
 use Rattle.pipe_run.specs.declared.run.NoRun.{NoRun}
@@ -27,6 +27,9 @@ asked_more xs ys old mid new first then = record {
   asked = λ t. then.asked (first.same_telling ∙ t) ∙ ap (λ z. z ++ ys) (first.asked t) ∙ append_assoc old.asked xs ys;
   faults_stay = omega (arith, first.faults_stay, then.faults_stay);
 }
+
+abbrev all_open : (feeds : Feeds) (topology : Topology) (table opened : ℕ → Option BodySeen) (fresh : Option LineSeen) (old mid : EdgesSeen) → IsOpenedFor feeds topology table opened fresh old mid → IsAllOpen feeds topology old
+all_open feeds topology table opened fresh old mid o = record { control = fresh; unread = o.lines; start = table; handed = o.handed; bodies = opened; opened = o.opens }
 
 -- all else was open when its call failed
 failed_last : (name : List ℕ) (feeds : Feeds) (topology : Topology) (table opened : ℕ → Option BodySeen) (fresh : Option LineSeen) (old mid new : EdgesSeen) → IsOpenedFor feeds topology table opened fresh old mid
@@ -42,12 +45,7 @@ failed_last name feeds topology table opened fresh old mid new o f = record {
     refl,
     refl,
     record {
-      control = fresh;
-      unread = o.lines;
-      start = table;
-      handed = o.handed;
-      bodies = opened;
-      opened = o.opens;
+      all = all_open feeds topology table opened fresh old mid o;
       inner = f.inner;
       ungated = f.ungated;
       sources = f.sources ∙ ap (λ z. z ++ f.inner) o.asks.sources;
@@ -71,12 +69,7 @@ wanted_last name feeds topology table opened fresh old mid new o c = record {
   back = inr (record {
     made = c.made;
     to_come = c.to_come;
-    control = fresh;
-    unread = o.lines;
-    start = table;
-    handed = o.handed;
-    bodies = opened;
-    opened = o.opens;
+    all = all_open feeds topology table opened fresh old mid o;
     parts = c.parts;
     more = c.more;
     inner = c.inner;

@@ -202,18 +202,22 @@ IsOpenedInPart feeds topology rest old new =
     IsControlCut feeds topology rest old new
     ⊎ ((start : ℕ → Option BodySeen) × AreHandedOut topology start × IsStageCut feeds topology start rest old new)
 
--- all that the topology names was opened, and went back unread and unwritten, the control source first
-pub record IsAllUnused (feeds : Feeds) (topology : Topology) (old new : EdgesSeen) : Type 0 where
+-- all that the topology names was opened: its control source, and what these bodies hold then
+pub record IsAllOpen (feeds : Feeds) (topology : Topology) (old : EdgesSeen) : Type 0 where
   pub control : Option LineSeen
   pub unread : HasSource old (control_call topology.control) None control
   pub start : ℕ → Option BodySeen
   pub handed : AreHandedOut topology start
   pub bodies : ℕ → Option BodySeen
   pub opened : AreOpened feeds topology (length topology.stages) old start bodies
+
+-- all that the topology names was opened, and went back unread and unwritten, the control source first
+pub record IsAllUnused (feeds : Feeds) (topology : Topology) (old new : EdgesSeen) : Type 0 where
+  pub all : IsAllOpen feeds topology old
   pub inner : List (List ℕ × SourceSeen)
-  pub ungated : AreInner (named_control topology.control control ++ sources_of feeds topology.stages bodies) inner
+  pub ungated : AreInner (named_control topology.control all.control ++ sources_of feeds topology.stages all.bodies) inner
   pub sources : new.sources_back ≡ old.sources_back ++ inner
-  pub sinks : new.sinks_back ≡ old.sinks_back ++ sinks_of feeds topology.stages bodies
+  pub sinks : new.sinks_back ≡ old.sinks_back ++ sinks_of feeds topology.stages all.bodies
 
 -- memory was wanting for the live sink, with these calls still to come, or for giving back after its call had failed: all that the topology
 -- names was opened, of which the first parts went back unread and unwritten, and so many of the sources of the next part; and then
@@ -221,20 +225,15 @@ pub record IsAllUnused (feeds : Feeds) (topology : Topology) (old new : EdgesSee
 pub record IsAllOpenedInPart (feeds : Feeds) (topology : Topology) (live : List ℕ) (rest : List (EdgeKind × List ℕ)) (old new : EdgesSeen) : Type 0 where
   pub made : List (EdgeKind × List ℕ)
   pub to_come : (Sink, live) ∷ [] ≡ made ++ rest
-  pub control : Option LineSeen
-  pub unread : HasSource old (control_call topology.control) None control
-  pub start : ℕ → Option BodySeen
-  pub handed : AreHandedOut topology start
-  pub bodies : ℕ → Option BodySeen
-  pub opened : AreOpened feeds topology (length topology.stages) old start bodies
+  pub all : IsAllOpen feeds topology old
   pub parts : ℕ
   pub more : ℕ
   pub inner : List (List ℕ × SourceSeen)
-  pub ungated : AreInner (first_sources feeds parts more topology control bodies) inner
+  pub ungated : AreInner (first_sources feeds parts more topology all.control all.bodies) inner
   pub back : List (List ℕ × SinkSeen)
   pub unwritten : IsLiveBack old live rest back
   pub sources : new.sources_back ≡ old.sources_back ++ inner
-  pub sinks : new.sinks_back ≡ old.sinks_back ++ (first_sinks feeds parts topology bodies ++ back)
+  pub sinks : new.sinks_back ≡ old.sinks_back ++ (first_sinks feeds parts topology all.bodies ++ back)
 
 -- ---- with a live sink, where it is named
 

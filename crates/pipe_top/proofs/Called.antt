@@ -22,7 +22,7 @@ use Rattle.edge_names.specs.Opened.{AreUnread, GivesFed, GivesFeed, GivesMerge, 
 use Rattle.edge_names.specs.Supplies.{Feeds, Feed, Opened, Merged, Made, Supplied, Fed, Written, stage_calls}
 use Rattle.edge_names.specs.Controls.{IsBackFirst, IsFailedInPart, IsStageCut, control_call, first_sinks, named_control}
 use Rattle.edge_names.specs.Returned.{feed_in, sink_in, sinks_of}
-use Rattle.pipe_run.specs.Outside.{IsFedRead, IsFeedRead, IsMergeRead, IsSourceRead, IsSinkWritten, AreUsed, IsAllOpenedInPart, IsAllUnused, IsControlUsed, HasControl, IsOpenedInPart, IsOpenedInPartWith, IsOutside, IsOutsideWith, IsStageUnopened, IsUnopened, IsUnopenedWith}
+use Rattle.pipe_run.specs.Outside.{IsFedRead, IsFeedRead, IsMergeRead, IsSourceRead, IsSinkWritten, AreUsed, IsAllOpen, IsAllOpenedInPart, IsAllUnused, IsControlUsed, HasControl, IsOpenedInPart, IsOpenedInPartWith, IsOutside, IsOutsideWith, IsStageUnopened, IsUnopened, IsUnopenedWith}
 use Rattle.pipe_run.specs.Live.{IsLiveBack, IsLiveSink}
 use Rattle.journal_texts.specs.Acks.{ack_text}
 use Rattle.pipe_top.specs.Cases.{feeds_of, Case, NoCommand, NoTopology as BadTopology, TooFew, Checks, Upgrades, Audits, Rejects, Runs}
@@ -296,18 +296,23 @@ unopened_as feeds topology name rest call old middle new c (inl x) = inl (record
 })
 unopened_as feeds topology name rest call old middle new c (inr x) = inr (stage_unopened_as feeds topology name rest call old middle new c x)
 
-all_unused_as : (feeds : Feeds) (topology : Topology) (call : EdgeKind × List ℕ) (old middle new : EdgesSeen) → Called old middle call → IsAllUnused feeds topology middle new → IsAllUnused feeds topology old new
-all_unused_as feeds topology call old middle new c x = record {
+abbrev all_open_as : (feeds : Feeds) (topology : Topology) (old middle : EdgesSeen) → SameNames old middle → IsAllOpen feeds topology middle → IsAllOpen feeds topology old
+all_open_as feeds topology old middle same x = record {
   control = x.control;
-  unread = has_source old middle (control_call topology.control) None x.control c.names x.unread;
+  unread = has_source old middle (control_call topology.control) None x.control same x.unread;
   start = x.start;
   handed = x.handed;
   bodies = x.bodies;
-  opened = are_opened feeds topology (length topology.stages) old middle x.start x.bodies c.names x.opened;
+  opened = are_opened feeds topology (length topology.stages) old middle x.start x.bodies same x.opened;
+}
+
+all_unused_as : (feeds : Feeds) (topology : Topology) (call : EdgeKind × List ℕ) (old middle new : EdgesSeen) → Called old middle call → IsAllUnused feeds topology middle new → IsAllUnused feeds topology old new
+all_unused_as feeds topology call old middle new c x = record {
+  all = all_open_as feeds topology old middle c.names x.all;
   inner = x.inner;
   ungated = x.ungated;
   sources = x.sources ∙ ap (λ l. l ++ x.inner) c.same_sources;
-  sinks = x.sinks ∙ ap (λ l. l ++ sinks_of feeds topology.stages x.bodies) c.same_sinks;
+  sinks = x.sinks ∙ ap (λ l. l ++ sinks_of feeds topology.stages x.all.bodies) c.same_sinks;
 }
 
 unopened_with_as : (feeds : Feeds) (topology : Topology) (live : Option (List ℕ)) (name : List ℕ) (rest : List (EdgeKind × List ℕ)) (call : EdgeKind × List ℕ) (old middle new : EdgesSeen) → Called old middle call
@@ -400,12 +405,7 @@ all_opened_in_part_as : (feeds : Feeds) (topology : Topology) (live : List ℕ) 
 all_opened_in_part_as feeds topology live rest call old middle new c x = record {
   made = x.made;
   to_come = x.to_come;
-  control = x.control;
-  unread = has_source old middle (control_call topology.control) None x.control c.names x.unread;
-  start = x.start;
-  handed = x.handed;
-  bodies = x.bodies;
-  opened = are_opened feeds topology (length topology.stages) old middle x.start x.bodies c.names x.opened;
+  all = all_open_as feeds topology old middle c.names x.all;
   parts = x.parts;
   more = x.more;
   inner = x.inner;
@@ -413,7 +413,7 @@ all_opened_in_part_as feeds topology live rest call old middle new c x = record 
   back = x.back;
   unwritten = live_back_as old middle live rest x.back c.names x.unwritten;
   sources = x.sources ∙ ap (λ l. l ++ x.inner) c.same_sources;
-  sinks = x.sinks ∙ ap (λ l. l ++ (first_sinks feeds x.parts topology x.bodies ++ x.back)) c.same_sinks;
+  sinks = x.sinks ∙ ap (λ l. l ++ (first_sinks feeds x.parts topology x.all.bodies ++ x.back)) c.same_sinks;
 }
 
 in_part_with_as : (feeds : Feeds) (topology : Topology) (live : Option (List ℕ)) (rest : List (EdgeKind × List ℕ)) (call : EdgeKind × List ℕ) (old middle new : EdgesSeen) → Called old middle call

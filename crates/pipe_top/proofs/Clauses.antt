@@ -164,7 +164,7 @@ ended case fails topology before verdict status o is few =
 -- ---- the output
 
 small_text : (before : History) (case : Case) (fails : List ℕ → Type 0) (topology : Option Topology) (verdict : Verdict) → Outcome case fails topology before verdict → IsEndStatus (status_in verdict)
-    → out_text_of verdict ≡ out_text before case
+    → out_text_of before verdict ≡ out_text before case
 small_text before case fails topology verdict (inl e) few = absurd (early_big (status_in verdict) (early_at fails topology before verdict e) few)
 small_text before NoCommand fails topology verdict (inr r) few = absurd (not_small 7 (status_in verdict) (ap status_in r.refused) (omega arith) (omega arith) few)
 small_text before (BadTopology fault) fails topology verdict (inr r) few = absurd (not_small 6 (status_in verdict) (ap status_in r.refused) (omega arith) (omega arith) few)
@@ -172,15 +172,15 @@ small_text before (TooFew shortage) fails topology verdict (inr r) few = absurd 
 small_text before (Checks wanted) fails topology verdict (inr r) few = rw r.counted r.counts
 small_text before (Upgrades file text wanted) fails topology verdict (inr r) few = rw r.counted r.counts
 small_text before (Audits name summary wanted) fails topology verdict (inr r) few = rw r.counted r.counts
-small_text before (Rejects name fault wanted) fails topology verdict (inr r) few = ap out_text_of r.refused
+small_text before (Rejects name fault wanted) fails topology verdict (inr r) few = ap (out_text_of before) r.refused
 small_text before (Runs shows live feeding wanted) fails topology verdict (inr r) few = by_run (ran verdict shows live wanted before r.comes_to)
   where
-    by_run : Reported shows live wanted before verdict ⊎ (verdict ≡ Refused Memory) → out_text_of verdict ≡ out_text before (Runs shows live feeding wanted)
+    by_run : Reported shows live wanted before verdict ⊎ (verdict ≡ Refused Memory) → out_text_of before verdict ≡ out_text before (Runs shows live feeding wanted)
     by_run (inl v) = out_of v
     by_run (inr is) = absurd (not_small 9 (status_in verdict) (ap status_in is) (omega arith) (omega arith) few)
 
 pub reported : (case : Case) (fails : List ℕ → Type 0) (topology : Option Topology) (before : History) (verdict : Verdict) (status : ℕ) (held held' : List ℕ) → Outcome case fails topology before verdict
-    → (status ≡ status_in verdict) ⊎ ((status ≡ 8) ⊎ (status ≡ 9)) → IsEndStatus status → Adds held held' (out_text_of verdict) → Adds held held' (out_text before case)
+    → (status ≡ status_in verdict) ⊎ ((status ≡ 8) ⊎ (status ≡ 9)) → IsEndStatus status → Adds held held' (out_text_of before verdict) → Adds held held' (out_text before case)
 reported case fails topology before verdict status held held' o is few adds =
     adds ∙ ap (λ text. held ++ text) (small_text before case fails topology verdict o (rw (is_small status (status_in verdict) is few) at few))
 
@@ -190,57 +190,57 @@ begun_nothing held held' text begun = record {
   is = begun.is ∙ ap (λ x. held ++ x) (take-nil begun.count);
 }
 
-begun_refusal : (held held' text : List ℕ) (verdict : Verdict) (refusal : Refusal) → verdict ≡ Refused refusal → AddsPrefix held held' (out_text_of verdict) → AddsPrefix held held' text
-begun_refusal held held' text verdict refusal is begun = begun_nothing held held' text (rw is at begun)
+begun_refusal : (before : History) (held held' text : List ℕ) (verdict : Verdict) (refusal : Refusal) → verdict ≡ Refused refusal → AddsPrefix held held' (out_text_of before verdict) → AddsPrefix held held' text
+begun_refusal before held held' text verdict refusal is begun = begun_nothing held held' text (rw is at begun)
 
-begun_early : (fails : List ℕ → Type 0) (held held' text : List ℕ) (verdict : Verdict) → (verdict ≡ Refused Memory) ⊎ Fails fails verdict → AddsPrefix held held' (out_text_of verdict) → AddsPrefix held held' text
-begun_early fails held held' text verdict (inl is) begun = begun_refusal held held' text verdict Memory is begun
-begun_early fails held held' text verdict (inr f) begun = begun_refusal held held' text verdict (Edge f.name) f.is begun
+begun_early : (fails : List ℕ → Type 0) (before : History) (held held' text : List ℕ) (verdict : Verdict) → (verdict ≡ Refused Memory) ⊎ Fails fails verdict → AddsPrefix held held' (out_text_of before verdict) → AddsPrefix held held' text
+begun_early fails before held held' text verdict (inl is) begun = begun_refusal before held held' text verdict Memory is begun
+begun_early fails before held held' text verdict (inr f) begun = begun_refusal before held held' text verdict (Edge f.name) f.is begun
 
 pub begun : (case : Case) (fails : List ℕ → Type 0) (topology : Option Topology) (before : History) (verdict : Verdict) (held held' : List ℕ) → Outcome case fails topology before verdict
-    → AddsPrefix held held' (out_text_of verdict) → AddsPrefix held held' (text_of_call topology before case)
+    → AddsPrefix held held' (out_text_of before verdict) → AddsPrefix held held' (text_of_call topology before case)
 begun case fails topology before verdict held held' (inl e) b =
     let none = early fails topology before verdict e in
-    rw none.no_topology (begun_early fails held held' [] verdict none.why b)
-begun NoCommand fails topology before verdict held held' (inr r) b = rw r.no_topology (begun_refusal held held' [] verdict Usage r.refused b)
-begun (BadTopology fault) fails topology before verdict held held' (inr r) b = rw r.no_topology (begun_refusal held held' [] verdict (NoTopology fault) r.refused b)
-begun (TooFew shortage) fails topology before verdict held held' (inr r) b = rw r.no_topology (begun_refusal held held' [] verdict (Stock shortage) r.refused b)
+    rw none.no_topology (begun_early fails before held held' [] verdict none.why b)
+begun NoCommand fails topology before verdict held held' (inr r) b = rw r.no_topology (begun_refusal before held held' [] verdict Usage r.refused b)
+begun (BadTopology fault) fails topology before verdict held held' (inr r) b = rw r.no_topology (begun_refusal before held held' [] verdict (NoTopology fault) r.refused b)
+begun (TooFew shortage) fails topology before verdict held held' (inr r) b = rw r.no_topology (begun_refusal before held held' [] verdict (Stock shortage) r.refused b)
 begun (Checks wanted) fails topology before verdict held held' (inr r) b =
-    let counted : AddsPrefix held held' (out_text_of (Done r.texts 0)) = rw r.counted at b in
+    let counted : AddsPrefix held held' (out_text_of before (Done r.texts 0)) = rw r.counted at b in
     rw r.own (rw r.counts at counted)
 begun (Upgrades file text wanted) fails topology before verdict held held' (inr r) b =
-    let counted : AddsPrefix held held' (out_text_of (Done r.texts 0)) = rw r.counted at b in
+    let counted : AddsPrefix held held' (out_text_of before (Done r.texts 0)) = rw r.counted at b in
     rw r.own (rw r.counts at counted)
 begun (Audits name summary wanted) fails topology before verdict held held' (inr r) b =
-    let counted : AddsPrefix held held' (out_text_of (Done r.texts 0)) = rw r.counted at b in
+    let counted : AddsPrefix held held' (out_text_of before (Done r.texts 0)) = rw r.counted at b in
     rw r.own (rw r.counts at counted)
-begun (Rejects name fault wanted) fails topology before verdict held held' (inr r) b = rw r.no_topology (begun_refusal held held' [] verdict (Audit fault) r.refused b)
+begun (Rejects name fault wanted) fails topology before verdict held held' (inr r) b = rw r.no_topology (begun_refusal before held held' [] verdict (Audit fault) r.refused b)
 begun (Runs shows live feeding wanted) fails topology before verdict held held' (inr r) b = rw r.own (by_run (ran verdict shows live wanted before r.comes_to))
   where
     by_run : Reported shows live wanted before verdict ⊎ (verdict ≡ Refused Memory) → AddsPrefix held held' (out_text before (Runs shows live feeding wanted))
     by_run (inl v) = rw (out_of v) at b
-    by_run (inr is) = begun_refusal held held' (out_text before (Runs shows live feeding wanted)) verdict Memory is b
+    by_run (inr is) = begun_refusal before held held' (out_text before (Runs shows live feeding wanted)) verdict Memory is b
 
 -- texts are written with 0 to 4 alone
 texts_small : (case : Case) (fails : List ℕ → Type 0) (topology : Option Topology) (before : History) (verdict : Verdict) → Outcome case fails topology before verdict
-    → IsEndStatus (status_in verdict) ⊎ (out_text_of verdict ≡ [])
+    → IsEndStatus (status_in verdict) ⊎ (out_text_of before verdict ≡ [])
 texts_small case fails topology before verdict (inl e) = by_early (early fails topology before verdict e).why
   where
-    by_early : (verdict ≡ Refused Memory) ⊎ Fails fails verdict → IsEndStatus (status_in verdict) ⊎ (out_text_of verdict ≡ [])
-    by_early (inl is) = inr (ap out_text_of is)
-    by_early (inr f) = inr (ap out_text_of f.is)
-texts_small NoCommand fails topology before verdict (inr r) = inr (ap out_text_of r.refused)
-texts_small (BadTopology fault) fails topology before verdict (inr r) = inr (ap out_text_of r.refused)
-texts_small (TooFew shortage) fails topology before verdict (inr r) = inr (ap out_text_of r.refused)
+    by_early : (verdict ≡ Refused Memory) ⊎ Fails fails verdict → IsEndStatus (status_in verdict) ⊎ (out_text_of before verdict ≡ [])
+    by_early (inl is) = inr (ap (out_text_of before) is)
+    by_early (inr f) = inr (ap (out_text_of before) f.is)
+texts_small NoCommand fails topology before verdict (inr r) = inr (ap (out_text_of before) r.refused)
+texts_small (BadTopology fault) fails topology before verdict (inr r) = inr (ap (out_text_of before) r.refused)
+texts_small (TooFew shortage) fails topology before verdict (inr r) = inr (ap (out_text_of before) r.refused)
 texts_small (Checks wanted) fails topology before verdict (inr r) = inl (inl (rw r.counted (omega arith)))
 texts_small (Upgrades file text wanted) fails topology before verdict (inr r) = inl (inl (rw r.counted (omega arith)))
 texts_small (Audits name summary wanted) fails topology before verdict (inr r) = inl (inl (rw r.counted (omega arith)))
-texts_small (Rejects name fault wanted) fails topology before verdict (inr r) = inr (ap out_text_of r.refused)
+texts_small (Rejects name fault wanted) fails topology before verdict (inr r) = inr (ap (out_text_of before) r.refused)
 texts_small (Runs shows live feeding wanted) fails topology before verdict (inr r) = by_run (ran verdict shows live wanted before r.comes_to)
   where
-    by_run : Reported shows live wanted before verdict ⊎ (verdict ≡ Refused Memory) → IsEndStatus (status_in verdict) ⊎ (out_text_of verdict ≡ [])
+    by_run : Reported shows live wanted before verdict ⊎ (verdict ≡ Refused Memory) → IsEndStatus (status_in verdict) ⊎ (out_text_of before verdict ≡ [])
     by_run (inl v) = inl (few_of v)
-    by_run (inr is) = inr (ap out_text_of is)
+    by_run (inr is) = inr (ap (out_text_of before) is)
 
 -- the numbers of a refusal
 refusal_is : (s : ℕ) → IsRefusalStatus s → (4 < s) × (s ≢ 8) × (s ≢ 9) × (s < 12)
@@ -250,19 +250,19 @@ refusal_is s (inr (inr a)) = (omega (arith, a), (λ at. omega (arith, a, at)), (
 
 -- under a refusal nothing is written to the output
 pub unwritten_out : (case : Case) (fails : List ℕ → Type 0) (topology : Option Topology) (before : History) (verdict : Verdict) (status : ℕ) (held held' : List ℕ) → Outcome case fails topology before verdict
-    → (status ≡ status_in verdict) ⊎ ((status ≡ 8) ⊎ (status ≡ 9)) → IsRefusalStatus status → (status ≢ 8 → Adds held held' (out_text_of verdict)) → held' ≡ held
+    → (status ≡ status_in verdict) ⊎ ((status ≡ 8) ⊎ (status ≡ 9)) → IsRefusalStatus status → (status ≢ 8 → Adds held held' (out_text_of before verdict)) → held' ≡ held
 unwritten_out case fails topology before verdict status held held' o is refusal adds =
     let r = refusal_is status refusal in
     let s = settled status (status_in verdict) is r.1 r.2 in
     adds r.1 ∙ ap (λ text. held ++ text) (no_text s r.0 r.3 (texts_small case fails topology before verdict o)) ∙ append-nil held
   where
-    no_text : status ≡ status_in verdict → 4 < status → status < 12 → IsEndStatus (status_in verdict) ⊎ (out_text_of verdict ≡ []) → out_text_of verdict ≡ []
+    no_text : status ≡ status_in verdict → 4 < status → status < 12 → IsEndStatus (status_in verdict) ⊎ (out_text_of before verdict ≡ []) → out_text_of before verdict ≡ []
     no_text s more less (inl few) = absurd (not_small status (status_in verdict) (sym s) more less few)
     no_text s more less (inr none) = none
 
 -- under 9 nothing is written to the output
 pub unwritten_nine : (case : Case) (fails : List ℕ → Type 0) (topology : Option Topology) (before : History) (verdict : Verdict) (status : ℕ) (held held' : List ℕ) → Outcome case fails topology before verdict
-    → status ≡ 9 → (status ≢ 8 → Adds held held' (out_text_of verdict)) → UnlessNine verdict (held' ≡ held) → held' ≡ held
+    → status ≡ 9 → (status ≢ 8 → Adds held held' (out_text_of before verdict)) → UnlessNine verdict (held' ≡ held) → held' ≡ held
 unwritten_nine case fails topology before verdict status held held' o nine adds nothing = by_text (texts_small case fails topology before verdict o)
   where
     small : (v : Verdict) → IsEndStatus (status_in v) → UnlessNine v (held' ≡ held) → held' ≡ held
@@ -270,7 +270,7 @@ unwritten_nine case fails topology before verdict status held held' o nine adds 
     small (Unfed texts line) few unless = unless
     small (Refused refusal) few unless = unless
 
-    by_text : IsEndStatus (status_in verdict) ⊎ (out_text_of verdict ≡ []) → held' ≡ held
+    by_text : IsEndStatus (status_in verdict) ⊎ (out_text_of before verdict ≡ []) → held' ≡ held
     by_text (inl few) = small verdict few nothing
     by_text (inr none) = adds (λ eight. omega (arith, nine, eight)) ∙ ap (λ text. held ++ text) none ∙ append-nil held
 

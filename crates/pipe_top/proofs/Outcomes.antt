@@ -58,7 +58,7 @@ pub record Reported (shows : Shows) (live : Option (List ℕ)) (topology : Topol
   pub texts : Texts
   pub which : IsDone topology before verdict texts ⊎ IsUnfedWith live verdict texts
   pub come : HasCome topology before
-  pub by_journal : whole_text texts ≡ run_text shows topology before
+  pub by_journal : whole_text before texts ≡ run_text shows topology before
 
 pub done_few : (topology : Topology) (before : History) (verdict : Verdict) (texts : Texts) → IsDone topology before verdict texts → status_in verdict ≤ 4
 done_few topology before verdict texts d =
@@ -94,12 +94,12 @@ ended_of {shows} {live} {topology} {before} {verdict} v = record { ended = v.com
     by_which (inr u) other = absurd (other (ap status_in u.1))
 
 -- its texts are the journal's
-pub out_of : {shows : Shows} {live : Option (List ℕ)} {topology : Topology} {before : History} {verdict : Verdict} → Reported shows live topology before verdict → out_text_of verdict ≡ run_text shows topology before
+pub out_of : {shows : Shows} {live : Option (List ℕ)} {topology : Topology} {before : History} {verdict : Verdict} → Reported shows live topology before verdict → out_text_of before verdict ≡ run_text shows topology before
 out_of {shows} {live} {topology} {before} {verdict} v = by_which v.which
   where
-    by_which : IsDone topology before verdict v.texts ⊎ IsUnfedWith live verdict v.texts → out_text_of verdict ≡ run_text shows topology before
-    by_which (inl d) = ap out_text_of d.1 ∙ v.by_journal
-    by_which (inr u) = ap out_text_of u.1 ∙ v.by_journal
+    by_which : IsDone topology before verdict v.texts ⊎ IsUnfedWith live verdict v.texts → out_text_of before verdict ≡ run_text shows topology before
+    by_which (inl d) = ap (out_text_of before) d.1 ∙ v.by_journal
+    by_which (inr u) = ap (out_text_of before) u.1 ∙ v.by_journal
 
 unfed_line : (verdict : Verdict) (texts : Texts) (name : List ℕ) (live : Option (List ℕ)) → verdict ≡ Unfed texts (feed_line name) → live ≡ Some name
     → err_text_of verdict ≡ (if nat_le (status_in verdict) 4 then [] else live_line live)

@@ -21,12 +21,12 @@ use Rattle.pipe_top.proofs.Completes.{complete_by, unwritten}
 use Rattle.pipe_top.proofs.Shares.{generated_in}
 
 -- what the writing of a verdict comes to
-pub record Writes (verdict : Verdict) (status : ℕ) (out out' err err' : SinkSeen) : Type 0 where
+pub record Writes (before : History) (verdict : Verdict) (status : ℕ) (out out' err err' : SinkSeen) : Type 0 where
   pub status_is : (status ≡ status_in verdict) ⊎ ((status ≡ 8) ⊎ (status ≡ 9))
   pub wanting : verdict ≡ Refused Memory → status ≡ 9
   pub fault : status ≡ 8 → status_in verdict ≢ 8 → FaultBy verdict (Rose out.faults out'.faults) (Rose err.faults err'.faults)
-  pub output : status ≢ 8 → IsTrue out.told → Adds out.held out'.held (out_text_of verdict)
-  pub output_begun : IsTrue out.told → AddsPrefix out.held out'.held (out_text_of verdict)
+  pub output : status ≢ 8 → IsTrue out.told → Adds out.held out'.held (out_text_of before verdict)
+  pub output_begun : IsTrue out.told → AddsPrefix out.held out'.held (out_text_of before verdict)
   pub errors : status ≢ 8 → status ≢ 9 → IsTrue err.told → Adds err.held err'.held (err_text_of verdict)
   pub errors_begun : IsTrue err.told → AddsPrefix err.held err'.held (err_text_of verdict)
   pub quiet : IsTrue err.told → QuietBy verdict (err'.held ≡ err.held)
@@ -41,7 +41,7 @@ abbrev Failing : (calls : List (EdgeKind × List ℕ)) → (old new : OutsideSee
 Failing calls old new = FailsAt old.edges.told calls old.edges.asked new.edges.asked (Rose old.edges.faults new.edges.faults)
 
 call_by : (old new : OutsideSeen) (out out' err err' : SinkSeen) (command : Option Command) (topology : Option Topology) (before : History) (verdict : Verdict) (status : ℕ) (case : Case)
-    → ComesBy old new case (calls_of command case) topology before verdict → Writes verdict status out out' err err' → IsCall old new out out' err err' command topology before status case
+    → ComesBy old new case (calls_of command case) topology before verdict → Writes before verdict status out out' err err' → IsCall old new out out' err err' command topology before status case
 call_by old new out out' err err' command topology before verdict status case c w = record {
   own = own case (Failing (calls_of command case) old new) topology before verdict c.outcome;
   ended = λ few. ended case (Failing (calls_of command case) old new) topology before verdict status c.outcome w.status_is few;
@@ -76,7 +76,7 @@ call_by old new out out' err err' command topology before verdict status case c 
 
 -- the whole call
 pub call_in : {old new : OutsideSeen} {command : Option Command} {boxes : Boxes} {topology : Option Topology} {before : History} {verdict : Verdict} (out out' err err' : SinkSeen) (status : ℕ)
-    → Came old new command boxes topology before verdict → Writes verdict status out out' err err'
+    → Came old new command boxes topology before verdict → Writes before verdict status out out' err err'
     → InCase old.edges.told old.edges.named command boxes (IsCall old new out out' err err' command topology before status)
 call_in {old} {new} {command} {boxes} {topology} {before} {verdict} out out' err err' status c w = record {
   file = c.file;
@@ -100,13 +100,13 @@ known_in {old} {new} {command} {boxes} {topology} {before} {verdict} status c is
 
 -- a refusal writes nothing to the output
 pub unwritten_in : {old new : OutsideSeen} {command : Option Command} {boxes : Boxes} {topology : Option Topology} {before : History} {verdict : Verdict} (status : ℕ) (held held' : List ℕ)
-    → Came old new command boxes topology before verdict → (status ≡ status_in verdict) ⊎ ((status ≡ 8) ⊎ (status ≡ 9)) → IsRefusalStatus status → (status ≢ 8 → Adds held held' (out_text_of verdict)) → held' ≡ held
+    → Came old new command boxes topology before verdict → (status ≡ status_in verdict) ⊎ ((status ≡ 8) ⊎ (status ≡ 9)) → IsRefusalStatus status → (status ≢ 8 → Adds held held' (out_text_of before verdict)) → held' ≡ held
 unwritten_in {old} {new} {command} {boxes} {topology} {before} {verdict} status held held' c is refusal adds =
     unwritten_out (case_of command c.file c.text c.found boxes) (Failing (calls_of command (case_of command c.file c.text c.found boxes)) old new) topology before verdict status held held' c.comes.outcome is refusal adds
 
 -- nor does want of memory
 pub unwritten_nine_in : {old new : OutsideSeen} {command : Option Command} {boxes : Boxes} {topology : Option Topology} {before : History} {verdict : Verdict} (status : ℕ) (held held' : List ℕ)
-    → Came old new command boxes topology before verdict → status ≡ 9 → (status ≢ 8 → Adds held held' (out_text_of verdict)) → UnlessNine verdict (held' ≡ held) → held' ≡ held
+    → Came old new command boxes topology before verdict → status ≡ 9 → (status ≢ 8 → Adds held held' (out_text_of before verdict)) → UnlessNine verdict (held' ≡ held) → held' ≡ held
 unwritten_nine_in {old} {new} {command} {boxes} {topology} {before} {verdict} status held held' c nine adds nothing =
     unwritten_nine (case_of command c.file c.text c.found boxes) (Failing (calls_of command (case_of command c.file c.text c.found boxes)) old new) topology before verdict status held held' c.comes.outcome nine adds nothing
 

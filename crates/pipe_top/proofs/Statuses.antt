@@ -4,7 +4,7 @@ use Rattle.std.specs.Prelude.{filter_map, IsTrue}
 use Rattle.std.specs.List.{list_any}
 use Rattle.pipe_types.specs.declared.message.Outcome.TheVariants.{Successful, Failed}
 use Rattle.pipe_types.specs.declared.message.Place.{Place}
-use Rattle.pipe_types.specs.declared.message.Place.TheVariants.{Waiting, Inbox, Running, Gathered, InBatch, Acked, Lost}
+use Rattle.pipe_types.specs.declared.message.Place.TheVariants.{Acked, Lost}
 use Rattle.pipe_types.specs.declared.topology.Topology.{Topology}
 use Rattle.pipe_model.specs.History.{History, accepted}
 use Rattle.pipe_model.specs.Flow.{place}
@@ -44,22 +44,12 @@ none_of place test (n ∷ numbers) none = by_place (place n) refl (none_of place
 
 no_loss : (topology : Topology) (before : History) (n : ℕ) (p : Place) → is_lossless topology before ≡ true → place topology before n ≡ Some p → is_lost p ≡ false
 no_loss topology before n (Lost loss) lossless e = let x : true ≡ false = rw e at (none_lost topology before n lossless) in cc
-no_loss topology before n (Acked o) lossless e = refl
-no_loss topology before n (Waiting s) lossless e = refl
-no_loss topology before n (Inbox u) lossless e = refl
-no_loss topology before n (Running s) lossless e = refl
-no_loss topology before n (Gathered s) lossless e = refl
-no_loss topology before n (InBatch b) lossless e = refl
+no_loss topology before n _ lossless e = refl
 
 no_failure : (topology : Topology) (before : History) (n : ℕ) (p : Place) → all_pass before ≡ true → place topology before n ≡ Some p → is_failed p ≡ false
 no_failure topology before n (Acked (Failed why)) pass e = let x : true ≡ false = rw e at (none_failed topology before n pass) in cc
 no_failure topology before n (Acked Successful) pass e = refl
-no_failure topology before n (Lost loss) pass e = refl
-no_failure topology before n (Waiting s) pass e = refl
-no_failure topology before n (Inbox u) pass e = refl
-no_failure topology before n (Running s) pass e = refl
-no_failure topology before n (Gathered s) pass e = refl
-no_failure topology before n (InBatch b) pass e = refl
+no_failure topology before n _ pass e = refl
 
 -- where no source failed, nothing was lost and all passed, the status is 0
 pub clean_status : (topology : Topology) (before : History) → happened is_source_fault before ≡ false → IsTrue (is_lossless topology before) → IsTrue (all_pass before) → status_of topology before ≡ 0

@@ -40,12 +40,12 @@ use Rattle.run_verdicts.specs.declared.verdict.Verdict.TheVariants.{Refused, Don
 pub record IsReport (shows : Shows) (topology : Topology) (before : History) (texts : Texts) (status : ℕ) : Type 0 where
   pub ended : HasCome topology before
   pub status_is : status ≡ status_of topology before
-  pub by_journal : whole_text texts ≡ run_text shows topology before
+  pub by_journal : whole_text before texts ≡ run_text shows topology before
 
 -- the run is drained or halted, the texts are the journal's, and the line names the sink for live acknowledgements
 pub record IsUnfedReport (shows : Shows) (live : Option (List ℕ)) (topology : Topology) (before : History) (texts : Texts) (line : List ℕ) : Type 0 where
   pub ended : HasCome topology before
-  pub by_journal : whole_text texts ≡ run_text shows topology before
+  pub by_journal : whole_text before texts ≡ run_text shows topology before
   pub name : List ℕ
   pub named : live ≡ Some name
   pub line_is : line ≡ feed_line name
@@ -86,7 +86,7 @@ IsEarly fails topology before verdict = ⊥
 pub record IsChecked (wanted : Topology) (topology : Option Topology) (before : History) (verdict : Verdict) : Type 0 where
   pub texts : Texts
   pub counted : verdict ≡ Done texts 0
-  pub counts : whole_text texts ≡ counts_line (length wanted.stages) (subscriptions_of wanted)
+  pub counts : whole_text before texts ≡ counts_line (length wanted.stages) (subscriptions_of wanted)
   pub own : topology ≡ Some wanted
   pub run : IsRun wanted before
   pub no_step : before ≡ []
@@ -99,7 +99,7 @@ IsCheckedOrNot wanted topology before verdict = IsRefusedBy Memory topology befo
 pub record IsUpgraded (file text : List ℕ) (wanted : Topology) (topology : Option Topology) (before : History) (verdict : Verdict) : Type 0 where
   pub texts : Texts
   pub counted : verdict ≡ Done texts 0
-  pub counts : whole_text texts ≡ text
+  pub counts : whole_text before texts ≡ text
   pub upgrade : IsUpgrade file text
   pub own : topology ≡ Some wanted
   pub run : IsRun wanted before
@@ -109,7 +109,7 @@ pub record IsUpgraded (file text : List ℕ) (wanted : Topology) (topology : Opt
 pub record IsAudited (summary : Summary) (wanted : Topology) (topology : Option Topology) (before : History) (verdict : Verdict) : Type 0 where
   pub texts : Texts
   pub counted : verdict ≡ Done texts 0
-  pub counts : whole_text texts ≡ legal_text summary
+  pub counts : whole_text before texts ≡ legal_text summary
   pub own : topology ≡ Some wanted
   pub run : IsRun wanted before
   pub no_step : before ≡ []

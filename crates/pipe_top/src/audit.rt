@@ -4,6 +4,7 @@ ghost use Rattle.std.specs.Prelude.{◌≡◌, List, ℕ, IfOk};
 ghost use Rattle.pipe_types.specs.Sound.{IsSound};
 ghost use Rattle.pipe_edges.specs.declared.edges.EdgeKind.TheVariants.{Source};
 ghost use Rattle.edge_names.specs.Named.{GivesSource, Opens, BacksSource};
+ghost use Rattle.run_verdicts.specs.Verdicts.{CanBeShown};
 ghost use Rattle.pipe_top.specs.Flows.{IsAuditedOrNot, JudgesText, JudgesSource, JudgesOpened, ReadsJournal};
 
 use crate::file::text_of;
@@ -116,13 +117,14 @@ pub(crate) fn audited<C, K>(
     requires sound { IsSound topology }
     ensures same_boxes { result.stock.items ≡ stock.items }
     ensures same_clock { result.clock ≡ clock }
+    ensures shown { CanBeShown result.verdict result.journal }
     ensures audited { IsAuditedOrNot summary.now topology result.topology result.journal.steps result.verdict }
 {
     match legal_text(alloc, summary) {
         Ok(last) => Ran {
             verdict: Verdict::Done {
                 texts: Texts {
-                    steps: None,
+                    steps: false,
                     acks: None,
                     last,
                 },

@@ -1,17 +1,15 @@
 //! The acknowledgements of a run, sent to a sink while it runs.
 
-ghost use Rattle.std.specs.Prelude.{◌≡◌, [], IfOk, IfErr};
-ghost use Rattle.pipe_types.specs.Sound.{IsSound};
 ghost use Rattle.journal_texts.specs.Acks.{ack_text};
 
-use ack_feed::{AckCursor, AckFeed};
+use ack_feed::AckFeed;
 use journal_reading::copy_topology;
 use pipe_edges::ByteSink;
 use pipe_run::Live;
 use pipe_types::topology::Topology;
 use std::alloc::{AllocError, Global};
 
-/// How many lines a feed holds.
+/// How many texts a feed holds, each of the lines of one step.
 const ROOM: u16 = 16;
 
 /// What is live of a run: the line of each acknowledgement goes to a sink as soon as it is there.
@@ -23,8 +21,8 @@ impl<K: ByteSink + Send> Live<K> for SinkFeed {
     ghost text = { λ topology steps. ack_text topology steps };
 
     fn watch(alloc: Global, topology: &Topology, sink: K) -> Result<AckFeed<K>, (K, AllocError)> {
-        match cursor_of(alloc, topology) {
-            Ok(cursor) => match AckFeed::new(alloc, cursor, sink, ROOM) {
+        match copy_topology(alloc, topology) {
+            Ok(copy) => match AckFeed::new(alloc, copy, sink, ROOM) {
                 Ok(feed) => Ok(feed),
                 Err((_, sink, failed)) => Err((sink, failed)),
             },
@@ -34,17 +32,5 @@ impl<K: ByteSink + Send> Live<K> for SinkFeed {
 
     fn into_sink(watch: AckFeed<K>) -> K {
         watch.into_sink()
-    }
-}
-
-/// A cursor before the first step.
-fn cursor_of(alloc: Global, topology: &Topology) -> Result<AckCursor, AllocError>
-    requires sound { IsSound topology.now }
-    ensures topology { IfOk result (λ cursor. cursor.topology ≡ topology.now) }
-    ensures steps { IfOk result (λ cursor. cursor.steps ≡ []) }
-{
-    match AckCursor::new(alloc, copy_topology(alloc, topology)?) {
-        Ok(cursor) => Ok(cursor),
-        Err((_, failed)) => Err(failed),
     }
 }

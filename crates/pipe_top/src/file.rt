@@ -3,6 +3,7 @@
 ghost use Rattle.std.specs.Prelude.{◌≡◌, ◌⊎◌, ◌≤◌, ℕ, List, [], Ok, Some, None, IsTrue, IfOk, IfErr, option_map};
 ghost use Rattle.pipe_types.specs.{Counts.{Rose}, Sound.{IsSound}};
 ghost use Rattle.pipe_config.specs.{File.{topology_of_file}, Upgrade.{IsUpgrade}};
+ghost use Rattle.run_verdicts.specs.Verdicts.{CanBeShown};
 ghost use Rattle.pipe_top.specs.Flows.{ReadsFile, ReadsTopology, ReadsUpgrade, UpgradesTo, IsUpgraded, IsChecked, IsCheckedOrNot};
 
 use crate::run::{Ran, refused};
@@ -74,6 +75,7 @@ pub(crate) fn checked<C, K>(alloc: Global, topology: Topology, stock: Vec<C>, cl
     requires sound { IsSound topology }
     ensures same_boxes { result.stock.items ≡ stock.items }
     ensures same_clock { result.clock ≡ clock }
+    ensures shown { CanBeShown result.verdict result.journal }
     ensures checked { IsCheckedOrNot topology result.topology result.journal.steps result.verdict }
 {
     let stages = topology.stages.as_slice().len();
@@ -81,7 +83,7 @@ pub(crate) fn checked<C, K>(alloc: Global, topology: Topology, stock: Vec<C>, cl
         Ok(last) => Ran {
             verdict: Verdict::Done {
                 texts: Texts {
-                    steps: None,
+                    steps: false,
                     acks: None,
                     last,
                 },
@@ -147,6 +149,7 @@ pub(crate) fn finish_upgrade<C, K>(
     requires sound { IsSound found.topology }
     ensures same_boxes { result.stock.items ≡ stock.items }
     ensures same_clock { result.clock ≡ clock }
+    ensures shown { CanBeShown result.verdict result.journal }
     ensures upgraded { (file : List ℕ) → IsUpgrade file found.text
         → IsUpgraded file found.text found.topology result.topology result.journal.steps result.verdict }
 {
@@ -154,7 +157,7 @@ pub(crate) fn finish_upgrade<C, K>(
     Ran {
         verdict: Verdict::Done {
             texts: Texts {
-                steps: None,
+                steps: false,
                 acks: None,
                 last: text,
             },

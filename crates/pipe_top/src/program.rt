@@ -7,7 +7,7 @@ ghost use Rattle.pipe_run.specs.Clocks.{clock_seen};
 ghost use Rattle.box_stock.specs.Lends.{kinds_of};
 ghost use Rattle.topology_needs.specs.{Needs.{boxes_in}, declared.stock.Boxes.{Boxes}};
 ghost use Rattle.pipe_top.specs.{Cases.{InCase}, Runs.{IsRunOrNone, IsCall, IsKnownStatus, IsRefusalStatus, IsUnopenedStatus, IsOr}, Flows.{Came, ComesAudited}};
-ghost use Rattle.run_verdicts.specs.Verdicts.{AddsPrefix};
+ghost use Rattle.run_verdicts.specs.Verdicts.{AddsPrefix, CanBeShown};
 
 use crate::audit::{audit_named, audited};
 use crate::file::{checked, finish_upgrade, read_named, sink_of, upgrade_named};
@@ -89,7 +89,7 @@ pub fn run_program<
         stock,
         clock,
     } = run_words::<R, E, C, B, G, K>(rt, alloc, words, stock, edges, clock);
-    let status = write_verdict(alloc, &verdict, out, err);
+    let status = write_verdict(alloc, &verdict, &journal, out, err);
     RunEnd {
         status,
         topology,
@@ -112,6 +112,7 @@ fn run_words<
         (record { edges = ⟦<E as SeenEdges>⟧.seen edges.old; clock = clock_seen K.latest K.readings K.pauses clock; boxes = map C.seen stock.items })
         (record { edges = ⟦<E as SeenEdges>⟧.seen edges.new; clock = clock_seen K.latest K.readings K.pauses result.clock; boxes = map C.seen result.stock.items })
         (command_of (texts_of words.now.items)) (boxes_in (kinds_of C.seen stock.items)) result.topology result.journal.steps result.verdict }
+    ensures shown { CanBeShown result.verdict result.journal }
 {
     match read_words(alloc, words.as_slice()) {
         Ok(Some(Command::Flow(words))) => run_flow::<R, E, C, B, K>(
@@ -143,6 +144,7 @@ fn run_flow<
         (record { edges = ⟦<E as SeenEdges>⟧.seen edges.old; clock = clock_seen K.latest K.readings K.pauses clock; boxes = map C.seen stock.items })
         (record { edges = ⟦<E as SeenEdges>⟧.seen edges.new; clock = clock_seen K.latest K.readings K.pauses result.clock; boxes = map C.seen result.stock.items })
         (Some (Flow words.entry.source.now words.entry.prefix.now)) (boxes_in (kinds_of C.seen stock.items)) result.topology result.journal.steps result.verdict }
+    ensures shown { CanBeShown result.verdict result.journal }
 {
     let Ok(topology) = flow_topology(alloc, words.source, words.prefix) else {
         return refused(alloc, Refusal::Memory, stock, clock);
@@ -169,6 +171,7 @@ fn check_file<E: Edges, C: Boxed, K: Clock>(
         (record { edges = ⟦<E as SeenEdges>⟧.seen edges.old; clock = clock_seen K.latest K.readings K.pauses clock; boxes = map C.seen stock.items })
         (record { edges = ⟦<E as SeenEdges>⟧.seen edges.new; clock = clock_seen K.latest K.readings K.pauses result.clock; boxes = map C.seen result.stock.items })
         (Some (Check path.now)) boxes result.topology result.journal.steps result.verdict }
+    ensures shown { CanBeShown result.verdict result.journal }
 {
     match read_named(alloc, path, edges) {
         Ok(topology) => checked(alloc, topology, stock, clock),
@@ -188,6 +191,7 @@ fn upgrade_file<E: Edges, C: Boxed, K: Clock>(
         (record { edges = ⟦<E as SeenEdges>⟧.seen edges.old; clock = clock_seen K.latest K.readings K.pauses clock; boxes = map C.seen stock.items })
         (record { edges = ⟦<E as SeenEdges>⟧.seen edges.new; clock = clock_seen K.latest K.readings K.pauses result.clock; boxes = map C.seen result.stock.items })
         (Some (Upgrade path.now)) boxes result.topology result.journal.steps result.verdict }
+    ensures shown { CanBeShown result.verdict result.journal }
 {
     match upgrade_named(alloc, path, edges) {
         Ok(found) => finish_upgrade(alloc, found, stock, clock),
@@ -207,6 +211,7 @@ fn audit_file<E: Edges, C: Boxed, K: Clock>(
         (record { edges = ⟦<E as SeenEdges>⟧.seen edges.old; clock = clock_seen K.latest K.readings K.pauses clock; boxes = map C.seen stock.items })
         (record { edges = ⟦<E as SeenEdges>⟧.seen edges.new; clock = clock_seen K.latest K.readings K.pauses result.clock; boxes = map C.seen result.stock.items })
         (Some (Audit words.entry.journal.now words.entry.topology.now)) boxes result.topology result.journal.steps result.verdict }
+    ensures shown { CanBeShown result.verdict result.journal }
 {
     match read_named(alloc, words.topology, edges) {
         Ok(topology) => audit_journal(alloc, words.journal, topology, stock, edges, clock),
@@ -228,6 +233,7 @@ fn audit_journal<E: Edges, C: Boxed, K: Clock>(
         (record { edges = ⟦<E as SeenEdges>⟧.seen edges.old; clock = clock_seen K.latest K.readings K.pauses clock; boxes = map C.seen stock.items })
         (record { edges = ⟦<E as SeenEdges>⟧.seen edges.new; clock = clock_seen K.latest K.readings K.pauses result.clock; boxes = map C.seen result.stock.items })
         name.now topology result.topology result.journal.steps result.verdict }
+    ensures shown { CanBeShown result.verdict result.journal }
 {
     match audit_named(alloc, name, &topology, edges) {
         Ok(summary) => audited(alloc, topology, &summary, stock, clock),
@@ -247,6 +253,7 @@ fn run_file<
         (record { edges = ⟦<E as SeenEdges>⟧.seen edges.old; clock = clock_seen K.latest K.readings K.pauses clock; boxes = map C.seen stock.items })
         (record { edges = ⟦<E as SeenEdges>⟧.seen edges.new; clock = clock_seen K.latest K.readings K.pauses result.clock; boxes = map C.seen result.stock.items })
         (Some (Run words.entry.topology.now words.entry.workers words.entry.acks words.entry.steps (option_map (λ sink. sink.now) words.entry.live))) (boxes_in (kinds_of C.seen stock.items)) result.topology result.journal.steps result.verdict }
+    ensures shown { CanBeShown result.verdict result.journal }
 {
     let shows = Shows {
         steps: words.steps,
@@ -287,6 +294,7 @@ fn run_generated<
         (record { edges = ⟦<E as SeenEdges>⟧.seen edges.old; clock = clock_seen K.latest K.readings K.pauses clock; boxes = map C.seen stock.items })
         (record { edges = ⟦<E as SeenEdges>⟧.seen edges.new; clock = clock_seen K.latest K.readings K.pauses result.clock; boxes = map C.seen result.stock.items })
         (Some (Gen words.entry.seed words.entry.count words.entry.topology.now)) (boxes_in (kinds_of C.seen stock.items)) result.topology result.journal.steps result.verdict }
+    ensures shown { CanBeShown result.verdict result.journal }
 {
     let shows = Shows {
         steps: false,

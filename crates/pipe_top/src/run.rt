@@ -7,6 +7,7 @@ ghost use Rattle.pipe_run.specs.{Clocks.{clock_seen}, Live.{with_live}, Whole.{H
 ghost use Rattle.edge_names.specs.{Supplies.{FeedsProducers, IsUnmerged}, Controls.{run_calls}};
 ghost use Rattle.box_stock.specs.{Homes.{Suffices}, Lends.{kinds_of}};
 ghost use Rattle.topology_needs.specs.Needs.{boxes_in as boxes_by_kind, shortage_of};
+ghost use Rattle.run_verdicts.specs.Verdicts.{CanBeShown};
 ghost use Rattle.pipe_top.specs.{Cases.{Feeding, feeds_of, Runs, run_case, opening_calls}, Flows.{IsFedBy, IsJudgement, IsUnfedOrNot, ShowsUnfed, ComesBy, refusal_in}};
 
 use crate::feeds::SinkFeed;
@@ -42,6 +43,7 @@ pub(crate) struct Ran<C, K> {
 pub(crate) fn refused<C, K>(alloc: Global, refusal: Refusal, stock: Vec<C>, clock: K) -> Ran<C, K>
     ensures verdict { result.verdict ≡ Verdict.Refused refusal }
     ensures no_run { (result.topology ≡ None) × (result.journal.steps ≡ []) }
+    ensures shown { CanBeShown result.verdict result.journal }
     ensures same_boxes { result.stock.items ≡ stock.items }
     ensures same_clock { result.clock ≡ clock }
 {
@@ -82,6 +84,7 @@ pub(crate) fn run_or_refuse<
         (record { edges = ⟦<E as SeenEdges>⟧.seen edges.new; clock = clock_seen K.latest K.readings K.pauses result.clock; boxes = map C.seen result.stock.items })
         (run_case (boxes_by_kind (kinds_of C.seen stock.items)) shows live feeding topology)
         (opening_calls (run_case (boxes_by_kind (kinds_of C.seen stock.items)) shows live feeding topology)) result.topology result.journal.steps result.verdict }
+    ensures shown { CanBeShown result.verdict result.journal }
 {
     match refusal_of(&topology, &boxes_in(stock.as_slice())) {
         Some(refusal) => refused(alloc, refusal, stock, clock),
@@ -128,6 +131,7 @@ fn run_supplied<
         (record { edges = ⟦<E as SeenEdges>⟧.seen edges.old; clock = clock_seen K.latest K.readings K.pauses clock; boxes = map C.seen stock.items })
         (record { edges = ⟦<E as SeenEdges>⟧.seen edges.new; clock = clock_seen K.latest K.readings K.pauses result.clock; boxes = map C.seen result.stock.items })
         (Runs shows live feeding topology) (with_live live (run_calls (feeds_of feeding topology) topology)) result.topology result.journal.steps result.verdict }
+    ensures shown { CanBeShown result.verdict result.journal }
 {
     let Ended { run, stock, clock } = run_topology::<R, E, Q, C, B, K, SinkFeed>(
         rt, alloc, supply, topology, workers, &live, stock, edges, clock,
@@ -153,6 +157,7 @@ fn conclude<C, K>(
     requires fed { live.now ≡ None → run.unfed ≡ false }
     ensures topology { result.topology ≡ Some run.core.topology }
     ensures journal { result.journal.steps ≡ run.core.journal.steps }
+    ensures shown { CanBeShown result.verdict result.journal }
     ensures verdict { IsJudgement result.verdict shows live.now run.core.topology run.core.journal.steps }
     ensures unfed { ShowsUnfed result.verdict run.unfed }
     ensures wanting { is_ok run.end ≡ false → result.verdict ≡ Verdict.Refused Refusal.Memory }
@@ -180,6 +185,7 @@ fn judge(alloc: Global, core: &Core, shows: Shows, live: &Option<Text>, unfed: b
     requires come { HasCome core.now.topology core.now.journal.steps }
     requires fed { live.now ≡ None → unfed ≡ false }
     ensures verdict { IsJudgement result shows live.now core.now.topology core.now.journal.steps }
+    ensures shown { CanBeShown result core.now.journal }
     ensures unfed { ShowsUnfed result unfed }
 {
     match texts_of(alloc, core, shows) {

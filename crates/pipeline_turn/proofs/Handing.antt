@@ -1,5 +1,5 @@
 -- A take and a give keep the rule.
-use Rattle.std.proofs.Common.{◌≡◌, ◌≢◌, ℕ, ◌<◌, List, [], ◌∷◌, set, refl, sym, ap, ◌∙◌, subst, arith, inl, inr, ⊎_elim, Option, Some, None, IfSome, Bool, true, false, Contains}
+use Rattle.std.proofs.Common.{◌≡◌, ◌≢◌, ℕ, suc, ◌<◌, List, [], ◌∷◌, set, slice_index, refl, sym, ap, ◌∙◌, subst, arith, inl, inr, ⊎_elim, Option, Some, None, IfSome, Bool, true, false, Contains}
 use Rattle.std.proofs.lemmas.Bool.{false≢true}
 use mathlib.Core.Option.{some}
 use lib.ListN.{get_elem?}
@@ -40,25 +40,25 @@ module _ {V O : Type 0} (steps : V → History) (stems : O → V → Type 0) (aw
   pub stems_there : (v : View O) (o : O) (value : V) → v.origin ≡ Some o → stems o value → (origin : O) → v.origin ≡ Some origin → stems origin value
   stems_there v o value is from origin e = subst (λ (z : O). stems z value) (Some-injective o origin (sym is ∙ e)) from
 
-  take_at : (n id : ℕ) (me : Knows V O) (at : At V) → me.0.holds ≡ false → 0 < me.0.parts → (p : Place V) (news : ℕ) (o : O) (vs : List (View O)) → Stems stems o p → R n p o vs → get_elem? vs id ≡ some me.0
-      → rule.Done steps stems away n id me 0 (λ _. 1) (took steps stems away at me) (rule.At steps stems away p news vs)
-  take_at n id me at free part (home h) news o vs from r here =
+  take_at : (n id : ℕ) (me : Knows V O) (at : At V) → me.0.holds ≡ false → 0 < me.0.parts → (p : Place V) (counts : List ℕ) (o : O) (vs : List (View O)) → Stems stems o p → R n p o vs → get_elem? vs id ≡ some me.0
+      → rule.Done steps stems away n id me 0 (λ _. 1) (took steps stems away at me) (rule.At steps stems away p counts vs)
+  take_at n id me at free part (home h) counts o vs from r here =
       let v : View O = me.0 in let taken : History = steps h.value in let posts : List Post = away h.value in let w : View O = taking taken posts v in let old = r.each id v here in (
         w,
         takes 0 (Some h),
         refl,
-        rule.ruled steps stems away n news (lent id taken posts) o (set vs id w) tt (rule.one steps stems away n n (home h) (lent id taken posts) o vs id v w r here (w, put_here vs id w v here, refl) refl
+        rule.ruled steps stems away n counts (lent id taken posts) o (set vs id w) tt (rule.one steps stems away n n (home h) (lent id taken posts) o vs id v w r here (w, put_here vs id w v here, refl) refl
             (record { from = old.from; spent = λ e. absurd (omega arith); saw = begins_itself taken; heard = old.heard; holds = λ e. (refl, refl, refl); undone = λ post e. ((old.undone post e).0, unanswered_itself taken post); job_away = old.job_away })
             (λ j u other at_j (g : F (home h) o j u). record { from = g.from; spent = g.spent; saw = g.saw; heard = g.heard; holds = λ e. absurd (false≢true (sym g.holds ∙ e)); undone = g.undone; job_away = g.job_away })
             (rule.same_jobs steps stems away n (home h) o vs id v w r here refl) (λ post c. rule.still_a_job steps stems away vs id v w post here refl (r.owned post c))),
         (λ e. (h, refl, record { from = stems_there v o h.value (old.from part) from; saw = old.saw; undone = old.undone; job_away = old.job_away }), λ no. absurd (no refl)),
       )
-  take_at n id me at free part (lent i taken posts) news o vs from r here =
+  take_at n id me at free part (lent i taken posts) counts o vs from r here =
       let v : View O = me.0 in let w : View O = missing v in let old = r.each id v here in (
         w,
         keeps,
         tt,
-        rule.ruled steps stems away n news (lent i taken posts) o (set vs id w) tt (rule.one_still steps stems away n n (lent i taken posts) o vs id v w r here free refl refl
+        rule.ruled steps stems away n counts (lent i taken posts) o (set vs id w) tt (rule.one_still steps stems away n n (lent i taken posts) o vs id v w r here free refl refl
             (record { from = old.from; spent = old.spent; saw = old.saw; heard = old.heard; holds = old.holds; undone = old.undone; job_away = old.job_away })),
         (λ e. absurd (omega arith), λ no. refl),
       )
@@ -104,16 +104,16 @@ module _ {V O : Type 0} (steps : V → History) (stems : O → V → Type 0) (aw
       ((may.bodies post).0 c)
 
   give_at : (n id : ℕ) (v : View O) (h : Handed V) (at : At V) → v.holds ≡ true → 0 < v.parts → MayGive v h → ((o : O) → v.origin ≡ Some o → stems o h.value)
-      → (p : Place V) (news : ℕ) (o : O) (vs : List (View O)) → Stems stems o p → R n p o vs → get_elem? vs id ≡ some v
-      → rule.Done steps stems away n id (v, (0, Some h) ∷ []) 0 (λ _. 0) (gave steps at (v, (0, Some h) ∷ [])) (rule.At steps stems away p news vs)
-  give_at n id v h at holding part may from (home h') news o vs st r here = absurd (false≢true (sym (r.each id v here).holds ∙ holding))
-  give_at n id v h at holding part may from (lent i taken posts) news o vs st r here =
+      → (p : Place V) (counts : List ℕ) (o : O) (vs : List (View O)) → Stems stems o p → R n p o vs → get_elem? vs id ≡ some v
+      → rule.Done steps stems away n id (v, (0, Some h) ∷ []) 0 (λ _. 0) (gave steps at (v, (0, Some h) ∷ [])) (rule.At steps stems away p counts vs)
+  give_at n id v h at holding part may from (home h') counts o vs st r here = absurd (false≢true (sym (r.each id v here).holds ∙ holding))
+  give_at n id v h at holding part may from (lent i taken posts) counts o vs st r here =
       let old = r.each id v here in let who = old.holds holding in let w : View O = giving (steps h.value) h.job v in
       let mine : (post : Post) → h.job ≡ Some post → IsOwnJob v.job v.seen (steps h.value) post = λ post e. subst (λ (z : Option Post). IfSome z (λ q. IsOwnJob v.job v.seen (steps h.value) q)) e may.job in (
         w,
         gives,
         tt,
-        rule.ruled steps stems away n news (home h) o (set vs id w) (from o (old.from part)) (rule.one steps stems away n n (lent i taken posts) (home h) o vs id v w r here tt refl
+        rule.ruled steps stems away n counts (home h) o (set vs id w) (from o (old.from part)) (rule.one steps stems away n n (lent i taken posts) (home h) o vs id v w r here tt refl
             (record {
               from = old.from;
               spent = λ e. absurd (omega arith);
@@ -137,7 +137,7 @@ module _ {V O : Type 0} (steps : V → History) (stems : O → V → Type 0) (aw
       let P : Knows V O → Type 0 = λ z. Allows (rule.Rule steps stems away n) slots id z 0 (λ _. 0) (gave steps at z) in
       subst P (sym is) (rule.placed steps stems away n slots id (v, (0, Some h) ∷ []) 0 (λ _. 0) (gave steps at (v, (0, Some h) ∷ [])) (give_at n id v h at holding part may from))
 
-  -- news leaves all as it is but the count
-  pub tells_keep : (n slots id : ℕ) (me : Knows V O) (at : At V) (f : ℕ → ℕ) → Allows (rule.Rule steps stems away n) slots id me 1 f (λ found. unchanged at me found)
-  tells_keep n slots id me at f = rule.placed steps stems away n slots id me 1 f (λ found. unchanged at me found)
-      (λ p news o vs st r here. (me.0, keeps, tt, rule.ruled steps stems away n (f news) p o (set vs id me.0) st (subst (R n p o) (sym (set_again vs id me.0 here)) r), refl))
+  -- a count behind the place leaves all else as it is
+  pub counts_keep : (n slots id : ℕ) (me : Knows V O) (at : At V) (i : ℕ) (f : ℕ → ℕ) → Allows (rule.Rule steps stems away n) slots id me (suc i) f (λ found. unchanged at me found)
+  counts_keep n slots id me at i f = rule.placed steps stems away n slots id me (suc i) f (λ found. unchanged at me found)
+      (λ p counts o vs st r here. (me.0, keeps, tt, rule.ruled steps stems away n (set counts i (f (slice_index counts i))) p o (set vs id me.0) st (subst (R n p o) (sym (set_again vs id me.0 here)) r), refl))

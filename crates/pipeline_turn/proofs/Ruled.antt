@@ -17,8 +17,8 @@ use Rattle.pipeline_turn.specs.Steps.{Knows}
 use Rattle.pipeline_turn.proofs.Views.{put_here, only, total_set, total_snoc}
 
 module _ {V O : Type 0} (steps : V → History) (stems : O → V → Type 0) (away : V → List Post) where
-  abbrev pub At : Place V → ℕ → List (View O) → State (Option (Handed V)) (View O)
-  At p news vs = record { words = words_of p news; homes = homes_of p; views = vs }
+  abbrev pub At : Place V → List ℕ → List (View O) → State (Option (Handed V)) (View O)
+  At p counts vs = record { words = words_of p counts; homes = homes_of p; views = vs }
 
   abbrev pub F : Place V → O → ℕ → View O → Type 0
   F = Fits steps stems away
@@ -29,11 +29,11 @@ module _ {V O : Type 0} (steps : V → History) (stems : O → V → Type 0) (aw
   abbrev pub Rule : ℕ → State (Option (Handed V)) (View O) → Type 0
   Rule = IsRuled steps stems away
 
-  is_at : (n : ℕ) (s : State (Option (Handed V)) (View O)) (r : Rule n s) → At r.place r.news s.views ≡ s
+  is_at : (n : ℕ) (s : State (Option (Handed V)) (View O)) (r : Rule n s) → At r.place r.counts s.views ≡ s
   is_at n s r = λ i. record { words = sym r.words i; homes = sym r.homes i; views = s.views }
 
-  pub ruled : (n news : ℕ) (p : Place V) (o : O) (vs : List (View O)) → Stems stems o p → R n p o vs → Rule n (At p news vs)
-  ruled n news p o vs st r = record { place = p; origin = o; news = news; words = refl; homes = refl; stemmed = st; seated = r }
+  pub ruled : (n : ℕ) (counts : List ℕ) (p : Place V) (o : O) (vs : List (View O)) → Stems stems o p → R n p o vs → Rule n (At p counts vs)
+  ruled n counts p o vs st r = record { place = p; origin = o; counts = counts; words = refl; homes = refl; stemmed = st; seated = r }
 
   -- the holder is still there
   pub still_there : (p : Place V) (vs : List (View O)) (id : ℕ) (v w : View O) → get_elem? vs id ≡ some v → v.holds ≡ false → HasHolder p vs → HasHolder p (set vs id w)
@@ -84,8 +84,8 @@ module _ {V O : Type 0} (steps : V → History) (stems : O → V → Type 0) (aw
 
   -- it is enough to look at the places
   pub placed : (n slots id : ℕ) (me : Knows V O) (i : ℕ) (f : ℕ → ℕ) (then : ℕ → Knows V O → Type 0)
-      → ((p : Place V) (news : ℕ) (o : O) (vs : List (View O)) → Stems stems o p → R n p o vs → get_elem? vs id ≡ some me.0 → Done n id me i f then (At p news vs)) → Allows (Rule n) slots id me i f then
-  placed n slots id me i f then k s r deep here small = subst (Done n id me i f then) (is_at n s r) (k r.place r.news r.origin s.views r.stemmed r.seated here)
+      → ((p : Place V) (counts : List ℕ) (o : O) (vs : List (View O)) → Stems stems o p → R n p o vs → get_elem? vs id ≡ some me.0 → Done n id me i f then (At p counts vs)) → Allows (Rule n) slots id me i f then
+  placed n slots id me i f then k s r deep here small = subst (Done n id me i f then) (is_at n s r) (k r.place r.counts r.origin s.views r.stemmed r.seated here)
 
   -- a seat without the value fits wherever it is
   pub free_holds : (p : Place V) (seat : ℕ) (v : View O) → v.holds ≡ false → Holds p seat v

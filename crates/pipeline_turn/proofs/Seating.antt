@@ -27,14 +27,14 @@ module _ {V O : Type 0} (steps : V → History) (stems : O → V → Type 0) (aw
   abbrev R : ℕ → Place V → O → List (View O) → Type 0
   R = rule.R steps stems away
 
-  settle_done : (n id : ℕ) (me : Knows V O) (at : At V) → me.0.holds ≡ false → me.0.job ≡ None → (p : Place V) (news : ℕ) (o : O) (vs : List (View O)) → Stems stems o p → R n p o vs → get_elem? vs id ≡ some me.0
-      → rule.Done steps stems away n id me 0 (λ k. k) (settled at me) (rule.At steps stems away p news vs)
-  settle_done n id me at free idle p news o vs from r here =
+  settle_done : (n id : ℕ) (me : Knows V O) (at : At V) → me.0.holds ≡ false → me.0.job ≡ None → (p : Place V) (counts : List ℕ) (o : O) (vs : List (View O)) → Stems stems o p → R n p o vs → get_elem? vs id ≡ some me.0
+      → rule.Done steps stems away n id me 0 (λ k. k) (settled at me) (rule.At steps stems away p counts vs)
+  settle_done n id me at free idle p counts o vs from r here =
       let v : View O = me.0 in let w : View O = settling v in let old = r.each id v here in let b = longer_begins (current steps p) v.seen v.told old.saw old.heard in (
         w,
         keeps,
         tt,
-        rule.ruled steps stems away n news p o (set vs id w) from (rule.one_still steps stems away n n p o vs id v w r here free refl refl
+        rule.ruled steps stems away n counts p o (set vs id w) from (rule.one_still steps stems away n n p o vs id v w r here free refl refl
             (record {
               from = old.from;
               spent = old.spent;
@@ -60,7 +60,7 @@ module _ {V O : Type 0} (steps : V → History) (stems : O → V → Type 0) (aw
       record {
         place = p;
         origin = o;
-        news = r.news;
+        counts = r.counts;
         words = r.words;
         homes = r.homes;
         stemmed = r.stemmed;
@@ -76,7 +76,7 @@ module _ {V O : Type 0} (steps : V → History) (stems : O → V → Type 0) (aw
       record {
         place = p;
         origin = o;
-        news = r.news;
+        counts = r.counts;
         words = r.words;
         homes = r.homes;
         stemmed = r.stemmed;
@@ -112,8 +112,8 @@ module _ {V O : Type 0} (steps : V → History) (stems : O → V → Type 0) (aw
       (λ e. false≢true (sym free ∙ (ap (λ (z : View O). z.holds) (only vs id v u here (ap (get_elem? vs) (sym e) ∙ t.1)) ∙ t.2)))
       (λ no. let two = total_two vs i id u v no t.1 here in let e : total vs ≡ n = r.sum in false≢true (sym ((r.each i u t.1).spent (omega arith)).0 ∙ t.2)))
 
-  pub opens : (n : ℕ) (o : O) (h : Handed V) → stems o h.value → away h.value ≡ [] → rule.Rule steps stems away n (opening (0 ∷ 0 ∷ []) (Some h ∷ []) (opening_view n o))
-  opens n o h from none = rule.ruled steps stems away n 0 (home h) o (opening_view n o ∷ []) from (record {
+  pub opens : (n : ℕ) (o : O) (h : Handed V) → stems o h.value → away h.value ≡ [] → rule.Rule steps stems away n (opening (0 ∷ 0 ∷ 0 ∷ []) (Some h ∷ []) (opening_view n o))
+  opens n o h from none = rule.ruled steps stems away n (0 ∷ 0 ∷ []) (home h) o (opening_view n o ∷ []) from (record {
     holder = tt;
     sum = omega arith;
     each = λ j u e. at_first (λ (k : ℕ) (z : View O). F (home h) o k z) (opening_view n o)

@@ -1,5 +1,6 @@
 -- The rule of a turn, which holds between any two steps.
--- Word 0 is 1 while the value is out with a seat, and 0 while it is at home. Word 1 counts news, and may be any number.
+-- Word 0 is 1 while the value is out with a seat, and 0 while it is at home. The words behind it count news, and the workers that
+-- sleep, and may be any numbers.
 use Rattle.std.specs.Prelude.{◌≡◌, ◌≢◌, ℕ, ◌+◌, ◌<◌, List, [], ◌∷◌, Option, Some, None, true, false, Contains}
 use mathlib.Core.Option.{none, some}
 use mathlib.Core.Option as maybe
@@ -22,8 +23,8 @@ module _ {V : Type 0} where
   place_word (home h) = 0
   place_word (lent holder taken posts) = 1
 
-  abbrev pub words_of : Place V → ℕ → List ℕ
-  words_of place news = place_word place ∷ news ∷ []
+  abbrev pub words_of : Place V → List ℕ → List ℕ
+  words_of place counts = place_word place ∷ counts
 
   abbrev pub homes_of : Place V → List (maybe.Option (Option (Handed V)))
   homes_of (home h) = some (Some h) ∷ []
@@ -85,8 +86,8 @@ module _ {V O : Type 0} (steps : V → History) (stems : O → V → Type 0) (aw
   pub record IsRuled (parts : ℕ) (s : State (Option (Handed V)) (View O)) : Type 0 where
     pub place : Place V
     pub origin : O
-    pub news : ℕ
-    pub words : s.words ≡ words_of place news
+    pub counts : List ℕ
+    pub words : s.words ≡ words_of place counts
     pub homes : s.homes ≡ homes_of place
     pub stemmed : Stems stems origin place
     pub seated : AreSeated parts place origin s.views

@@ -55,6 +55,6 @@ pub record IsSound {V O : Type 0} (me : Me (Option (Handed V)) (View O)) : Type 
   pub settled : me.0.told ≡ []
   pub carries : me.1 ≡ carried me.0.holds
 
--- a word for the place of the value and one for the count of news, and the slot where the value lies at home
+-- a word for the place of the value, one for the count of news and one for that of sleepers, and the slot where the value lies at home
 abbrev pub HasOneSlot : TableId → Type 0
-HasOneSlot id = (id.words ≡ 2) × (id.slots ≡ 1)
+HasOneSlot id = (id.words ≡ 3) × (id.slots ≡ 1)

@@ -41,7 +41,7 @@ impl<V: Held> Play<Option<Handed<V>>, View<V::Start>> for Give<V> {
     ghost then = { gave V.steps };
 }
 
-/// The step that counts news.
+/// The step that counts news, or the workers that sleep.
 pub(crate) struct Tell;
 
 impl<V, O> Play<Option<Handed<V>>, View<O>> for Tell {

@@ -16,8 +16,11 @@ use std::snapshot::Snapshot;
 use std::sync::Wait;
 use std::time::Duration;
 
-/// A word that is 1 while the value is out with a seat and 0 while it is at home, a word that counts news, and the slot
-/// where the value lies at home. Contracts see a turn as a `TurnView`.
+/// How often a worker looks for the value before it sleeps.
+const LOOKS: u32 = 20_000;
+
+/// A word that is 1 while the value is out with a seat and 0 while it is at home, a word that counts news, one that counts
+/// the workers that sleep until the value is at home, and the slot where it lies then. Contracts see a turn as a `TurnView`.
 pub struct Turn<V: Held> {
     table: Table<Option<Handed<V>>, View<V::Start>, Terms<V>, OneHolder<V>, Global>,
 }
@@ -52,7 +55,7 @@ impl<V: Held> Turn<V> {
             slots.destroy_empty();
             return Err((of_full(value), AllocError));
         }
-        match Table::new(alloc, &[0, 0], slots, &terms) {
+        match Table::new(alloc, &[0, 0, 0], slots, &terms) {
             Ok((table, inner)) => Ok((Turn { table }, Seat { inner })),
             Err(Refused { mut slots }) => {
                 let value = of_full(slots.pop().unwrap());
@@ -85,7 +88,7 @@ impl<V: Held> Turn<V> {
         Some(value)
     }
 
-    /// Gives the value back, by one exchange, and wakes one worker that rests. With a job the seat goes away to do it, and
+    /// Gives the value back, by one exchange, and wakes one worker that rests, if one does. With a job the seat goes away to do it, and
     /// the job's post has to be away from the value, as are those of the other seats that are away, and no more.
     pub fn give(&self, seat: &mut Seat<V>, value: V, job: Option<Post>)
         requires of_this_turn { seat.old.turn ≡ self.now.identity }
@@ -103,12 +106,36 @@ impl<V: Held> Turn<V> {
             .exchange(&mut seat.inner, 0, Some(Handed { value, job }));
         let None = was else { unreachable!() };
         self.table.shared.swap::<Give<V>>(&mut seat.inner, 0, 0);
-        self.table.shared.wake_one(0);
+        if self.table.shared.peek(2) > 0 {
+            self.table.shared.wake_one(0);
+        }
     }
 
-    /// Sleeps while the value is away, until a `give` wakes it. It may also return for no reason.
-    pub fn rest<R: Wait>(&self, rt: &R) {
+    /// Waits while the value is away: looks for it for a while, since to fall asleep and be woken takes longer than most holds, and
+    /// then sleeps until a `give` wakes it. It may also return for no reason.
+    ///
+    /// A sleeper is counted before it looks at the place for the last time, as it falls asleep, and a `give` looks at the count
+    /// behind its exchange. So one of the two sees the other.
+    pub fn rest<R: Wait>(&self, rt: &R, seat: &mut Seat<V>)
+        requires of_this_turn { seat.old.turn ≡ self.now.identity }
+        ensures { seat.new ≡ seat.old }
+    {
+        if self.is_home_soon() {
+            return;
+        }
+        self.table.shared.fetch_add::<Tell>(&mut seat.inner, 2, 1);
         self.table.shared.park(rt, 0, 1);
+        self.table.shared.fetch_sub::<Tell>(&mut seat.inner, 2, 1);
+    }
+
+    /// Whether the value is seen at home within some tens of microseconds.
+    pub fn is_home_soon(&self) -> bool {
+        for _ in 0..LOOKS {
+            if self.table.shared.peek(0) == 0 {
+                return true;
+            }
+        }
+        false
     }
 
     /// Says that there is news in the value that the seat holds: counts it, and wakes one worker that waits for news.
@@ -117,8 +144,17 @@ impl<V: Held> Turn<V> {
         requires holding { seat.old.holds ≡ true }
         ensures { seat.new ≡ seat.old }
     {
-        self.table.shared.fetch_add::<Tell>(&mut seat.inner, 1, 1);
+        self.note(seat);
         self.table.shared.wake_one(1);
+    }
+
+    /// The same, and wakes nobody: who waits for news sees it behind its time.
+    pub fn note(&self, seat: &mut Seat<V>)
+        requires of_this_turn { seat.old.turn ≡ self.now.identity }
+        requires holding { seat.old.holds ≡ true }
+        ensures { seat.new ≡ seat.old }
+    {
+        self.table.shared.fetch_add::<Tell>(&mut seat.inner, 1, 1);
     }
 
     /// The count of news, by its low 32 bits, which a worker that finds nothing to do reads before it gives the value back
@@ -129,6 +165,12 @@ impl<V: Held> Turn<V> {
         requires of_this_turn { seat.now.turn ≡ self.now.identity }
         requires holding { seat.now.holds ≡ true }
     {
+        self.news_by_now()
+    }
+
+    /// The same count, for a worker that does not hold the value. What was told before may not be in the value that it takes next:
+    /// who told holds the value still, or gave it back.
+    pub fn news_by_now(&self) -> u32 {
         (self.table.shared.peek(1) & 0xffff_ffff) as u32
     }
 

@@ -24,7 +24,7 @@ use Rattle.pipe_laws.proofs.Tests.{same_stage-true}
 use Rattle.pipe_journal.specs.Recorded.{Recorded}
 use Rattle.core_tables.specs.Tables.{queue_at}
 use Rattle.core_state.specs.declared.state.Core.{Core}
-use Rattle.core_state.specs.Stands.{Fields, Holds}
+use Rattle.core_state.specs.Stands.{Fields, Holds, KeepsLog}
 use Rattle.core_state.specs.Room.{Roomy}
 use Rattle.core_state.proofs.Steps.{same_fields}
 use Rattle.core_state.proofs.Rooms.{still_roomy}
@@ -35,13 +35,14 @@ use Rattle.plain_run.specs.Owes.{OwesDispatch, is_crash}
 -- ---- the core with more room
 
 -- the journal made room
-pub still_holds : (core : Core) (j : Recorded) → Holds core → j.steps ≡ core.journal.steps → core.journal.spare ≤ j.spare → Holds (record core { journal = j })
-still_holds core j x same spare =
+pub still_holds : (core : Core) (j : Recorded) → Holds core → j.steps ≡ core.journal.steps → core.journal.spare ≤ j.spare → j.acked ≡ core.journal.acked → Holds (record core { journal = j })
+still_holds core j x same spare acked =
     record {
       sound = x.sound;
       legal = ap (is_legal core.topology) same ∙ x.legal;
       fields = subst (λ (h : History). Fields (record core { journal = j }) core.topology h) (sym same) (same_fields core j core.topology core.journal.steps x.fields);
       room = subst (λ (h : History). Roomy (record core { journal = j }) core.topology h) (sym same) (still_roomy core j core.topology core.journal.steps x.room spare);
+      log = subst (λ (h : History). KeepsLog core.topology h j.acked) (sym same) (subst (KeepsLog core.topology core.journal.steps) (sym acked) x.log);
     }
 
 -- inboxes with more room hold what they held
@@ -96,6 +97,7 @@ roomy_holds core inboxes same long x =
       legal = x.legal;
       fields = roomy_fields core core.topology core.journal.steps inboxes same long x.fields;
       room = record { steps = x.room.steps; rows = x.room.rows; queues = x.room.queues; ends = x.room.ends };
+      log = x.log;
     }
 
 -- a step may come on where the topology and the steps are the same

@@ -2,7 +2,9 @@
 
 use super::case::Case;
 use super::judge::acks_in;
-use super::outside::{World, are_sinks_free, clock, held_under, is_source_free, shown, world_of};
+use super::outside::{
+    World, are_sinks_free, clock, free_world_of, held_under, is_source_free, shown, world_of,
+};
 use super::texts::{has_line, has_word, pieces_in};
 use body_jobs::Body;
 use made_sources::MadeSource;
@@ -46,7 +48,26 @@ pub fn run_call<R: Threads + Wait + Sync>(
     let status = end.status;
     print!(rt; "{words}: status {status}, {back}")?;
     tell_counts(rt, case, &end)?;
-    tell_texts(rt, case, &world)
+    tell_texts(rt, case, &world)?;
+    if has_word(case.text("show"), "front") {
+        tell_front(rt, waits, case, words, shown(&world.out))?;
+    }
+    Ok(())
+}
+
+/// Writes how many bytes the output has, and whether they are the first that the same call writes to one that takes all.
+fn tell_front<R: Threads + Wait + Sync>(
+    rt: &HostRuntime,
+    waits: &R,
+    case: &Case,
+    words: &str,
+    out: &str,
+) -> io::Result<()> {
+    let mut free = free_world_of(rt.alloc(), case)?;
+    call(waits, rt.alloc(), case, words, &mut free)?;
+    let count = out.len();
+    let front = shown(&free.out).starts_with(out);
+    println!(rt; "out has the first {count} bytes: {front}")
 }
 
 fn tell_counts(rt: &HostRuntime, case: &Case, end: &Ended) -> io::Result<()> {

@@ -189,16 +189,7 @@ fn run_bodies<
             };
             let mut pipe = Pipe::new(core, bodies, control, clock, lengths);
             run_here(rt, alloc, &mut pipe);
-            let PipeParts {
-                core,
-                bodies,
-                control,
-                clock,
-                watch,
-                has_failed,
-                end,
-            } = pipe.into_parts();
-            let _ = (bodies, control, clock, has_failed, end);
+            let PipeParts { core, watch, .. } = pipe.into_parts();
             Some(Shown {
                 lengths: watch.seen,
                 core,

@@ -14,7 +14,7 @@ use pipe_types::bytes::{Bytes, Text};
 use std::alloc::{AllocError, Global};
 
 /// Room for every text that a call here writes.
-const ROOM: usize = 300_000;
+const ROOM: u64 = 300_000;
 
 /// What stands outside of a call.
 #[derive(Drop)]
@@ -32,9 +32,21 @@ pub fn world_of(alloc: Global, case: &Case) -> Result<World, AllocError> {
 }
 
 fn outputs_of(alloc: Global, case: &Case) -> Result<(MemSink, MemSink), AllocError> {
-    let out = sink_of(alloc, case.text("out.acts"))?;
+    let out = sink_with(
+        alloc,
+        case.text("out.acts"),
+        case.number_or("out.room", ROOM),
+    )?;
     let err = sink_of(alloc, case.text("err.acts"))?;
     Ok((out, err))
+}
+
+/// What the case gives, with an output that takes all.
+pub fn free_world_of(alloc: Global, case: &Case) -> Result<World, AllocError> {
+    let edges = edges_of(alloc, case)?;
+    let out = sink_of(alloc, "")?;
+    let err = sink_of(alloc, "")?;
+    Ok(World { edges, out, err })
 }
 
 /// Whether the first source can be opened again, and each of a merge.
@@ -181,8 +193,14 @@ fn source_act(word: &str) -> SourceAct {
 fn sink_of(alloc: Global, acts: &str) -> Result<MemSink, AllocError>
     ensures { IfOk result IsUnwritten }
 {
+    sink_with(alloc, acts, ROOM)
+}
+
+fn sink_with(alloc: Global, acts: &str, room: u64) -> Result<MemSink, AllocError>
+    ensures { IfOk result IsUnwritten }
+{
     let script = sink_script(alloc, acts)?;
-    MemSink::new(Bytes::from_vec(Vec::new(alloc)), ROOM, script)
+    MemSink::new(Bytes::from_vec(Vec::new(alloc)), room as usize, script)
 }
 
 // A number takes so many bytes; another word fails.

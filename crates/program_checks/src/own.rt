@@ -9,10 +9,11 @@ use super::outside::shown;
 use body_jobs::Body;
 use made_sources::MadeSource;
 use mem_edges::{MemSink, MemSource};
-use own_callback::{Came, LinesEnd, PlainLines, ThirdCrashes, run_lines, run_with};
+use own_callback::{LinesEnd, PlainLines, ThirdCrashes, run_lines, run_with};
 use own_handler::{OwnBox, PassAll};
 use pipe_types::bytes::Bytes;
 use rate_gate::GatedSource;
+use std::alloc::{AllocError, Global};
 use std::io;
 use std::sync::atomic::AtomicU64;
 use std::sync::{Arc, Wait};
@@ -30,96 +31,82 @@ pub fn run_own<R: Threads + Wait + Sync>(
     if count < 1 || count > 16 {
         return println!(rt; "not allowed");
     }
-    if number(case.text("meets")) > 0 {
-        run_meets(rt, waits, case, count)
+    let stock = if number(case.text("meets")) > 0 {
+        meeting(rt.alloc(), case)?
     } else {
-        run_third(rt, waits, case, count)
-    }
+        third(rt.alloc())?
+    };
+    run_together(rt, waits, case, count, stock)
 }
 
-fn run_third<R: Threads + Wait + Sync>(
-    rt: &HostRuntime,
-    waits: &R,
-    case: &Case,
-    count: u16,
-) -> io::Result<()>
-    requires least { 1 ≤ count }
-    requires most { count ≤ 16 }
-{
-    let (file, lines) = (case.text("file"), case.text("a"));
-    let mut stock: Vec<Handler> = Vec::new(rt.alloc());
-    stock.push(Box::new(rt.alloc(), ThirdCrashes::new(rt.alloc()))?)?;
-    let came = run_with::<
-        _,
-        _,
-        Body<GatedSource<MemSource>, MemSink>,
-        Body<GatedSource<MadeSource>, MemSink>,
-    >(waits, rt.alloc(), count, file, lines, stock)?;
-    tell_own(rt, case, count, &came)
+/// One callback that crashes at its third message.
+fn third(alloc: Global) -> Result<Vec<Handler>, AllocError> {
+    let mut stock: Vec<Handler> = Vec::new(alloc);
+    stock.push(Box::new(alloc, OwnBox::new(alloc, ThirdCrashes::new()))?)?;
+    Ok(stock)
 }
 
-/// Runs so many callbacks that share a count, which is 0, and meet all together.
-fn run_meets<R: Threads + Wait + Sync>(
-    rt: &HostRuntime,
-    waits: &R,
-    case: &Case,
-    count: u16,
-) -> io::Result<()>
-    requires least { 1 ≤ count }
-    requires most { count ≤ 16 }
-{
+/// So many callbacks as the case says, which share a count, which is 0, and meet all together.
+fn meeting(alloc: Global, case: &Case) -> Result<Vec<Handler>, AllocError> {
     let (group, looks) = (number(case.text("meets")), number(case.text("looks")));
-    let (file, lines) = (case.text("file"), case.text("a"));
-    let begun = Arc::new(rt.alloc(), AtomicU64::new(0))?;
-    let mut stock: Vec<Handler> = Vec::new(rt.alloc());
+    let begun = Arc::new(alloc, AtomicU64::new(0))?;
+    let mut stock: Vec<Handler> = Vec::new(alloc);
     for _ in 0..group {
-        let meets = Meets::new(rt.alloc(), Arc::try_clone(&begun)?, group, looks);
-        stock.push(Box::new(rt.alloc(), meets)?)?;
+        let meets = Meets::new(Arc::try_clone(&begun)?, group, looks);
+        stock.push(Box::new(alloc, OwnBox::new(alloc, meets))?)?;
     }
+    Ok(stock)
+}
+
+/// Runs the callbacks on so many workers.
+fn run_together<R: Threads + Wait + Sync>(
+    rt: &HostRuntime,
+    waits: &R,
+    case: &Case,
+    count: u16,
+    stock: Vec<Handler>,
+) -> io::Result<()>
+    requires least { 1 ≤ count }
+    requires most { count ≤ 16 }
+{
     let came = run_with::<
         _,
         _,
         Body<GatedSource<MemSource>, MemSink>,
         Body<GatedSource<MadeSource>, MemSink>,
-    >(waits, rt.alloc(), count, file, lines, stock)?;
-    tell_own(rt, case, count, &came)
-}
-
-fn tell_own(rt: &HostRuntime, case: &Case, count: u16, came: &Came<Handler>) -> io::Result<()> {
+    >(
+        waits,
+        rt.alloc(),
+        count,
+        case.text("file"),
+        case.text("a"),
+        stock,
+    )?;
     let (status, callbacks) = (came.status, came.stock.len());
     println!(rt; "{count} workers: status {status}, callbacks {callbacks}")?;
     tell_outputs(rt, case, shown(&came.out), shown(&came.err))
 }
 
-/// Runs the lines of the case with so many handlers that pass all, and writes each text that comes of it.
-pub fn run_passing<R: Threads + Wait + Sync>(
-    rt: &HostRuntime,
-    waits: &R,
-    case: &Case,
-    count: &str,
-) -> io::Result<()> {
-    let mut stock: Vec<Handler> = Vec::new(rt.alloc());
+/// So many handlers that pass all.
+pub fn passing(alloc: Global, count: &str) -> Result<Vec<Handler>, AllocError> {
+    let mut stock: Vec<Handler> = Vec::new(alloc);
     for _ in 0..number(count) {
-        stock.push(Box::new(rt.alloc(), OwnBox::new(rt.alloc(), PassAll))?)?;
+        stock.push(Box::new(alloc, OwnBox::new(alloc, PassAll))?)?;
     }
-    run_stock(rt, waits, case, stock)
+    Ok(stock)
 }
 
-/// The same with so many callbacks that write plain text.
-pub fn run_plain_lines<R: Threads + Wait + Sync>(
-    rt: &HostRuntime,
-    waits: &R,
-    case: &Case,
-    count: &str,
-) -> io::Result<()> {
-    let mut stock: Vec<Handler> = Vec::new(rt.alloc());
+/// So many callbacks that write plain text.
+pub fn plain_lines(alloc: Global, count: &str) -> Result<Vec<Handler>, AllocError> {
+    let mut stock: Vec<Handler> = Vec::new(alloc);
     for _ in 0..number(count) {
-        stock.push(Box::new(rt.alloc(), PlainLines::new(rt.alloc()))?)?;
+        stock.push(Box::new(alloc, PlainLines::new(alloc))?)?;
     }
-    run_stock(rt, waits, case, stock)
+    Ok(stock)
 }
 
-fn run_stock<R: Threads + Wait + Sync>(
+/// Runs the lines of the case with these callbacks, and writes each text that comes of it.
+pub fn run_stock<R: Threads + Wait + Sync>(
     rt: &HostRuntime,
     waits: &R,
     case: &Case,

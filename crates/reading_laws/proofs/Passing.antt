@@ -7,7 +7,7 @@ use Rattle.std.specs.Str.{bytes_eq}
 use Rattle.pipe_types.specs.declared.numbers.MsgNo.{MsgNo}
 use Rattle.pipe_types.specs.declared.message.Message.{Message}
 use Rattle.pipe_types.specs.declared.message.Reply.{Reply}
-use Rattle.pipe_types.specs.declared.message.Reply.TheVariants.{Pass as Passed, Failed, Raised, Crashed}
+use Rattle.pipe_types.specs.declared.message.Reply.TheVariants.{Pass as Passed}
 use Rattle.pipe_types.specs.declared.topology.Kind.{Kind}
 use Rattle.pipe_types.specs.declared.topology.Kind.TheVariants.{Steps, Lines, Own}
 use Rattle.pipe_types.specs.declared.topology.Rule.{Rule}
@@ -123,12 +123,8 @@ same_passes first (Passed m) (Passed n) h is =
         key = subst (λ xs. length xs ≤ max_bytes) (sym key) is.short.key;
       };
     }
-same_passes first (Passed m) (Failed why) h is = cc
-same_passes first (Passed m) (Raised why) h is = cc
-same_passes first (Passed m) Crashed h is = cc
-same_passes first (Failed why) other h is = tt
-same_passes first (Raised why) other h is = tt
-same_passes first Crashed other h is = tt
+same_passes first (Passed m) _ h is = cc
+same_passes first _ other h is = tt
 
 same_all : (messages : List Message) (replies others : List Reply) → same_replies replies others ≡ true → PassAsThere messages others → PassAsThere messages replies
 same_all messages [] others h there = tt

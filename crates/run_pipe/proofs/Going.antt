@@ -85,27 +85,15 @@ unhalted topology steps home n = by (happened is_halt steps) refl
 module _ {B : Type 0} where
   with_all : (came : Came B) (P Q R : Load B → Type 0) → ((load : Load B) → P load → Q load → R load) → AtJob came P → AtJob came Q → AtJob came R
   with_all (Ok (next.Job load)) P Q R f p q = f load p q
-  with_all (Ok next.JobsOut) P Q R f p q = tt
-  with_all (Ok next.Paused) P Q R f p q = tt
-  with_all (Ok next.Drained) P Q R f p q = tt
-  with_all (Ok next.Halted) P Q R f p q = tt
-  with_all (Err e) P Q R f p q = tt
+  with_all _ P Q R f p q = tt
 
   to_round : (came : Came B) (P : Load B → Type 0) → AtJob came P → IfJob (round_of came) P
   to_round (Ok (next.Job load)) P p = p
-  to_round (Ok next.JobsOut) P p = tt
-  to_round (Ok next.Paused) P p = tt
-  to_round (Ok next.Drained) P p = tt
-  to_round (Ok next.Halted) P p = tt
-  to_round (Err e) P p = tt
+  to_round _ P p = tt
 
   to_job : (came : Came B) (P : Post → Type 0) → AtJob came (λ load. P load.job.post) → IfSome (job_of came) P
   to_job (Ok (next.Job load)) P p = p
-  to_job (Ok next.JobsOut) P p = tt
-  to_job (Ok next.Paused) P p = tt
-  to_job (Ok next.Drained) P p = tt
-  to_job (Ok next.Halted) P p = tt
-  to_job (Err e) P p = tt
+  to_job _ P p = tt
 
   same_job : (came : Came B) → job_of came ≡ job_post (λ (load : Load B). load.job.post) (round_of came)
   same_job (Ok (next.Job load)) = refl

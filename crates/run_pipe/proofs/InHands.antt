@@ -70,6 +70,10 @@ none_in (x ∷ xs) none = absurd (none x (0, omega arith, refl))
 no_one : {A : Type 0} (p : Post) → None ≡ Some p → A
 no_one p e = cc
 
+-- a hold, by its round
+pub round_is : {B : Type 0} (look : B → BodySeen) (brought : Option (Home B)) (now new : PipeState) {r q : Round (Load B)} → r ≡ q → Rounded look brought r now new → Rounded look brought q now new
+round_is look brought now new is rounded = subst (λ z. Rounded look brought z now new) is rounded
+
 pub hand_first : {B : Type 0} (look : B → BodySeen) (first : PipeState) → away_of first ≡ [] → InHand look first first None
 hand_first look first none = record {
   stems = λ opened s. (s, tt);

@@ -4,7 +4,7 @@ mod Measures
 mod Gone
 mod InHands
 mod Backs
-mod Outs
+pub mod Outs
 mod Idles
 mod Homing
 mod Going

@@ -31,7 +31,7 @@ second_false true true c h = cc
 second_false false b c h = cc
 
 -- no job is out at the end
-none_out_at : (topology : Topology) (h : History) (end : RunEnd) → HasEnded topology h end → jobs_out topology h ≡ false
+pub none_out_at : (topology : Topology) (h : History) (end : RunEnd) → HasEnded topology h end → jobs_out topology h ≡ false
 none_out_at topology h Drained e = second_false (happened is_drain h) (jobs_out topology h) _ e.0
 none_out_at topology h Halted e = e.1
 

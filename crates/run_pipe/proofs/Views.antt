@@ -1,15 +1,18 @@
 -- A pipe as contracts see it, and what its fields are.
-use Rattle.std.proofs.Common.{◌≡◌, suc, List, [], ◌∷◌, refl, ap, ◌∙◌, length, Option, Some, None, Result}
+use Rattle.std.proofs.Common.{◌≡◌, suc, List, [], ◌∷◌, refl, ap, sym, ◌∙◌, length, Option, Some, None, Result}
 use Rattle.std.specs.Prelude.{map, option_map, slice_get}
 use Rattle.std.specs.declared.alloc.AllocError.{AllocError}
 use Rattle.std.proofs.lemmas.Option.{slice_get-map}
-use Rattle.pipe_types.specs.declared.topology.Topology.{Topology}
-use Rattle.pipe_model.specs.History.{History}
-use Rattle.stage_bodies.specs.Seen.{BodySeen, LineSeen, body_at, looked}
-use Rattle.stage_holds.specs.Clocks.{ClockSeen}
+use Rattle.core_state.specs.declared.state.Core.{Core}
+use Rattle.pipe_edges.specs.declared.lines.LineSource.{LineSource}
+use Rattle.pipe_edges.specs.declared.source.ByteSource.{Ghosts as SourceOf}
+use Rattle.pipe_edges.specs.declared.clock.Clock.{Ghosts as ClockOf}
+use Rattle.stage_bodies.specs.Seen.{BodySeen, body_at, line_seen, looked}
+use Rattle.stage_holds.specs.Clocks.{clock_seen}
 use Rattle.run_pipe.specs.declared.ends.RunEnd.{RunEnd}
+use Rattle.run_pipe.specs.declared.shown.Shown.{Ghosts as ShownOf}
+use Rattle.run_pipe.specs.Parts.{state_by}
 use Rattle.run_pipe.specs.Seen.{PipeState, PipeSeen, state_of}
-use Rattle.run_pipe.specs.Watches.{WatchSeen}
 
 looked_map : {B : Type 0} (look : B → BodySeen) (x : Option (Option B)) → looked (λ b. b) (option_map (option_map look) x) ≡ looked look x
 looked_map look None = refl
@@ -23,16 +26,38 @@ same_length : {A B : Type 0} (f : A → B) (xs : List A) → length (map f xs) �
 same_length f [] = refl
 same_length f (x ∷ xs) = ap suc (same_length f xs)
 
--- what the fields of a pipe come to
-abbrev pub fields_of : {B : Type 0} (look : B → BodySeen) → Topology → History → List (Option B) → Option LineSeen → ClockSeen → WatchSeen → Option (Result RunEnd AllocError) → PipeState
-fields_of look topology steps items control clock watch end =
-    record { topology = topology; steps = steps; home = body_at look items; places = length items; control = control; clock = clock; watch = watch; end = end }
+-- a pipe from its fields: as contracts see it, and what that comes to
+module _ {B S C W : Type 0} (look : B → BodySeen) (source : SourceOf S) (clocks : ClockOf C) (shown : ShownOf W) where
+  abbrev pub seen_by : Core → List (Option B) → Option (LineSource S) → C → W → Option (Result RunEnd AllocError) → PipeSeen
+  seen_by core bodies control clock watch end =
+      record {
+        topology = core.topology;
+        steps = core.journal.steps;
+        bodies = map (option_map look) bodies;
+        control = option_map (line_seen source) control;
+        clock = clock_seen clocks.latest clocks.readings clocks.pauses clock;
+        watch = shown.sight watch;
+        end = end;
+      }
 
-pub state_is : {B : Type 0} (look : B → BodySeen) (topology : Topology) (steps : History) (items : List (Option B)) (control : Option LineSeen) (clock : ClockSeen) (watch : WatchSeen) (end : Option (Result RunEnd AllocError))
-    → state_of (record { topology = topology; steps = steps; bodies = map (option_map look) items; control = control; clock = clock; watch = watch; end = end }) ≡ fields_of look topology steps items control clock watch end
-state_is look topology steps items control clock watch end =
-    λ i. record { topology = topology; steps = steps; home = same_home look items i; places = same_length (option_map look) items i; control = control; clock = clock; watch = watch; end = end }
+  abbrev pub pipe_by : Core → List (Option B) → Option (LineSource S) → C → W → Option (Result RunEnd AllocError) → PipeState
+  pipe_by = state_by look (line_seen source) (clock_seen clocks.latest clocks.readings clocks.pauses) shown.sight
 
-abbrev pub seen_of : {B : Type 0} (look : B → BodySeen) → Topology → History → List (Option B) → Option LineSeen → ClockSeen → WatchSeen → Option (Result RunEnd AllocError) → PipeSeen
-seen_of look topology steps items control clock watch end =
-    record { topology = topology; steps = steps; bodies = map (option_map look) items; control = control; clock = clock; watch = watch; end = end }
+  pub pipe_is : (core : Core) (bodies : List (Option B)) (control : Option (LineSource S)) (clock : C) (watch : W) (end : Option (Result RunEnd AllocError))
+      → state_of (seen_by core bodies control clock watch end) ≡ pipe_by core bodies control clock watch end
+  pipe_is core bodies control clock watch end =
+      λ i. record {
+        topology = core.topology;
+        steps = core.journal.steps;
+        home = same_home look bodies i;
+        places = same_length (option_map look) bodies i;
+        control = option_map (line_seen source) control;
+        clock = clock_seen clocks.latest clocks.readings clocks.pauses clock;
+        watch = shown.sight watch;
+        end = end;
+      }
+
+  -- what contracts see of a pipe with these fields
+  pub made_of : (p : PipeSeen) (core : Core) (bodies : List (Option B)) (control : Option (LineSource S)) (clock : C) (watch : W) (end : Option (Result RunEnd AllocError))
+      → seen_by core bodies control clock watch end ≡ p → state_of p ≡ pipe_by core bodies control clock watch end
+  made_of p core bodies control clock watch end is = sym (ap state_of is) ∙ pipe_is core bodies control clock watch end

@@ -61,6 +61,7 @@ impl<B: Works, S: ByteSource, C: Clock, W: Shown> Held for Pipe<B, S, C, W> {
 }
 
 /// What a pipe is made of.
+#[derive(Drop)]
 pub struct PipeParts<B, S, C, W> {
     pub core: Core,
     /// By place.

@@ -11,12 +11,13 @@ ghost use Rattle.stage_workers.specs.Rounds.{IfJob, job_post, brought_post};
 use crate::ends::RunEnd;
 use crate::pipe::Pipe;
 use crate::shown::{Shown, show};
+use core_moves::{Move, next_move};
 use pipe_edges::{ByteSource, Clock};
-use pipe_types::numbers::Post;
-use pipe_types::topology::{Kind, Role};
-use stage_bodies::Works;
+use pipe_types::numbers::{Post, StageNo};
+use pipe_types::topology::{Kind, Role, StageSpec};
+use stage_bodies::{Works, has_several_sources};
 use stage_holds::{Home, Load, Next, come_home, hold};
-use stage_workers::{Round, Shift};
+use stage_workers::{Ahead, Round, Shift};
 use std::alloc::{AllocError, Global};
 
 impl<B: Works, S: ByteSource, C: Clock, W: Shown> Shift for Pipe<B, S, C, W> {
@@ -52,8 +53,15 @@ impl<B: Works, S: ByteSource, C: Clock, W: Shown> Shift for Pipe<B, S, C, W> {
         self.serve(brought)
     }
 
-    fn is_silent(&self) -> bool {
-        self.core.totals.quiet > 0
+    // Where sources were found empty since anything else happened, the next fetch is no news.
+    fn ahead(&self) -> Ahead {
+        if self.core.totals.quiet > 0 {
+            return Ahead::Nothing;
+        }
+        match next_move(&self.core) {
+            Move::Job(stage) if !self.is_quick(stage) => Ahead::Job,
+            _ => Ahead::Little,
+        }
     }
 
     fn run(alloc: Global, load: Load<B>) -> Home<B> {
@@ -63,6 +71,9 @@ impl<B: Works, S: ByteSource, C: Clock, W: Shown> Shift for Pipe<B, S, C, W> {
 
 /// How many jobs a worker does at most while it has the pipe.
 const QUICK_JOBS: u32 = 32;
+
+/// How many records a consumer may ask for at most where a fetch is quick.
+const QUICK_RECORDS: u32 = 128;
 
 /// How often rules are applied at most in a job that is quick.
 const QUICK_RULES: usize = 128;
@@ -79,7 +90,7 @@ impl<B: Works, S: ByteSource, C: Clock, W: Shown> Pipe<B, S, C, W> {
         for _ in 0..QUICK_JOBS {
             match round {
                 Round::Job(load) => {
-                    if !self.is_quick(load.post()) {
+                    if !self.is_quick(load.post().stage) {
                         return Round::Job(load);
                     }
                     round = self.hold(Some(load.work(alloc)));
@@ -90,15 +101,15 @@ impl<B: Works, S: ByteSource, C: Clock, W: Shown> Pipe<B, S, C, W> {
         round
     }
 
-    // Whether a job of the post is soon done, and waits for nothing: a few messages go through a few rules, and no more.
-    fn is_quick(&self, post: Post) -> bool {
-        match self.core.topology().stages.find(post.stage) {
-            Some(spec) => {
-                spec.role == Role::Processor
-                    && spec.kind != Kind::Own
-                    && (spec.max as usize).saturating_mul(spec.rules.as_slice().len() + 1)
-                        <= QUICK_RULES
-            }
+    // Whether a job of the stage is soon done, and waits for nothing.
+    fn is_quick(&self, stage: StageNo) -> bool {
+        let stages = &self.core.topology().stages;
+        match stages.find(stage) {
+            Some(spec) => match spec.role {
+                Role::Processor => has_few_rules(spec),
+                Role::Producer => are_fetches_quick(stages.as_slice()),
+                _ => false,
+            },
             None => false,
         }
     }
@@ -142,6 +153,22 @@ impl<B: Works, S: ByteSource, C: Clock, W: Shown> Pipe<B, S, C, W> {
             None => Round::Ended,
         }
     }
+}
+
+/// Whether a chunk of the stage is soon done: a few messages go through a few rules, and no more.
+fn has_few_rules(spec: &StageSpec) -> bool {
+    spec.kind != Kind::Own
+        && (spec.max as usize).saturating_mul(spec.rules.as_slice().len() + 1) <= QUICK_RULES
+}
+
+/// Whether a fetch is soon done: no read waits where there are several sources, and each consumer asks for few records.
+fn are_fetches_quick(stages: &[StageSpec]) -> bool {
+    for spec in stages {
+        if spec.role == Role::Processor && spec.max > QUICK_RECORDS {
+            return false;
+        }
+    }
+    has_several_sources(stages)
 }
 
 /// What a worker does after a hold, by how it came and how the watch was shown the journal, and how the run has ended then, if it has.

@@ -3,7 +3,7 @@
 ghost use Rattle.std.specs.Prelude.{◌≡◌, IsTrue, false, is_ok, true};
 ghost use Rattle.pipe_types.specs.declared.topology.Topology.{Topology};
 ghost use Rattle.pipe_model.specs.{Begins.{BeginsWith}, History.{History}, Legal.{is_legal}};
-ghost use Rattle.pipe_journal.specs.Watched.{StandsOn, is_failure};
+ghost use Rattle.pipe_journal.specs.{Acked.{IsLog}, Watched.{StandsOn, is_failure}};
 ghost use Rattle.core_state.specs.Stands.{Stands};
 ghost use Rattle.run_pipe.specs.Watches.{HasSeen, KeepsWatch, WatchSeen, watch_seen};
 
@@ -22,9 +22,9 @@ pub trait Shown {
     /// It knows this journal.
     ghost knows: { Self → History → Type 0 };
 
-    /// Shows it the journal, of which it knows a part. For want of memory, and where it fails, it knows a part.
+    /// Shows it the journal, whose log is that of its steps, and of which it knows a part. For want of memory, and where it fails, it knows a part.
     fn show(&mut self, journal: &Journal) -> WatchEnd
-        requires suits { (topology : Topology) × suits self.old topology × (is_legal topology journal.now.steps ≡ true) }
+        requires suits { (topology : Topology) × suits self.old topology × (is_legal topology journal.now.steps ≡ true) × IsLog topology journal.now.steps journal.now.acked.rows }
         requires knows { (earlier : History) × knows self.old earlier × BeginsWith journal.now.steps earlier }
         requires whole { (sight self.old).failed ≡ false }
         ensures suits { (topology : Topology) → suits self.old topology → suits self.new topology }
@@ -41,7 +41,7 @@ impl<W: Watch> Shown for W {
     ghost knows = { W.stands };
 
     fn show(&mut self, journal: &Journal) -> WatchEnd
-        requires suits { (topology : Topology) × W.fits self.old topology × (is_legal topology journal.now.steps ≡ true) }
+        requires suits { (topology : Topology) × W.fits self.old topology × (is_legal topology journal.now.steps ≡ true) × IsLog topology journal.now.steps journal.now.acked.rows }
         requires knows { (earlier : History) × W.stands self.old earlier × BeginsWith journal.now.steps earlier }
         requires whole { W.failed self.old ≡ false }
         ensures suits { (topology : Topology) → W.fits self.old topology → W.fits self.new topology }

@@ -1,8 +1,15 @@
 -- What is written, and with which status.
-use Rattle.std.specs.Prelude.{◌≡◌, ◌≢◌, ◌⊎◌, ℕ, List, [], ◌++◌, take, Option, Some, None}
+use Rattle.std.specs.Prelude.{if◌then◌else◌, Bool, ◌≡◌, ◌≢◌, ◌⊎◌, ℕ, List, [], ◌++◌, take, Option, Some, None}
 use Rattle.config_table.specs.declared.fault.ConfigFault.{ConfigFault}
 use Rattle.config_table.specs.declared.fault.ConfigFault.TheVariants.{NotToml, Version, UnknownKey, Missing, WrongType, OutOfRange, DuplicateName, UnknownBatcher, NoStage, TooManyStages, BadDispatch, Unreachable, OutOfMemory}
 use Rattle.config_table.specs.Fault.{number_of}
+use Rattle.pipe_types.specs.declared.topology.Topology.{Topology}
+use Rattle.pipe_types.specs.Sound.{IsSound}
+use Rattle.pipe_model.specs.History.{History}
+use Rattle.pipe_journal.specs.Recorded.{Recorded}
+use Rattle.pipe_journal.specs.Acked.{IsLog}
+use Rattle.journal_texts.specs.Steps.{journal_text}
+use Rattle.journal_texts.specs.Acks.{ack_text}
 use Rattle.program_words.specs.Refusals.{usage_line, topology_line, stock_line, edge_line, memory_line}
 use Rattle.run_verdicts.specs.Audits.{fault_line, fault_status}
 use Rattle.run_verdicts.specs.declared.verdict.Refusal.{Refusal}
@@ -52,19 +59,38 @@ refusal_status (Edge name) = 5
 refusal_status (Audit fault) = fault_status fault
 refusal_status Memory = 9
 
-abbrev pub or_nothing : Option (List ℕ) → List ℕ
-or_nothing None = []
-or_nothing (Some text) = text
+-- the acknowledgements of the journal by the topology, where there is one
+abbrev pub acks_in : Option Topology → History → List ℕ
+acks_in None before = []
+acks_in (Some topology) before = ack_text topology before
 
--- the journal and the acknowledgements where they are there, and then the last text
-abbrev pub whole_text : Texts → List ℕ
-whole_text texts = or_nothing texts.steps ++ (or_nothing texts.acks ++ texts.last)
+-- the topology, where this is so
+abbrev pub when : Bool → Topology → Option Topology
+when wanted topology = if wanted then Some topology else None
+
+abbrev pub shown : Bool → List ℕ → List ℕ
+shown wanted text = if wanted then text else []
+
+-- the journal and the acknowledgements, where they are shown, and then the last text
+abbrev pub whole_text : History → Texts → List ℕ
+whole_text before texts = shown texts.steps (journal_text before) ++ (acks_in texts.acks before ++ texts.last)
+
+-- the journal's log is that of what it acknowledges by the topology, where there is one
+abbrev pub IsLogged : Option Topology → Recorded → Type 0
+IsLogged None journal = Unit {0}
+IsLogged (Some topology) journal = IsSound topology × IsLog topology journal.steps journal.acked.rows
+
+-- the texts of the verdict can be written of this journal
+abbrev pub CanBeShown : Verdict → Recorded → Type 0
+CanBeShown (Done texts status) journal = IsLogged texts.acks journal
+CanBeShown (Unfed texts line) journal = IsLogged texts.acks journal
+CanBeShown (Refused refusal) journal = Unit {0}
 
 -- what a verdict writes to the output and to the error output, and its status
-abbrev pub out_text_of : Verdict → List ℕ
-out_text_of (Done texts status) = whole_text texts
-out_text_of (Unfed texts line) = whole_text texts
-out_text_of (Refused refusal) = []
+abbrev pub out_text_of : History → Verdict → List ℕ
+out_text_of before (Done texts status) = whole_text before texts
+out_text_of before (Unfed texts line) = whole_text before texts
+out_text_of before (Refused refusal) = []
 
 abbrev pub err_text_of : Verdict → List ℕ
 err_text_of (Done texts status) = []

@@ -2,16 +2,16 @@
 
 ghost use Rattle.std.specs.Prelude.{◌≡◌, IfOk};
 ghost use Rattle.core_state.specs.Stands.{Stands};
-ghost use Rattle.journal_texts.specs.{Acks.{ack_text as text_of_acks}, Report.{places as places_in, report_text as text_of_report}};
-ghost use Rattle.run_verdicts.specs.{Texts.{run_text}, Verdicts.{whole_text}};
+ghost use Rattle.journal_texts.specs.{Report.{places as places_in, report_text as text_of_report}};
+ghost use Rattle.run_verdicts.specs.{Texts.{run_text}, Verdicts.{whole_text, when, IsLogged}};
 
 use crate::verdict::{Shows, Texts};
-use ack_texts::ack_text;
 use core_state::Core;
-use journal_texts::lines::journal_text;
+use journal_reading::copy_topology;
 use journal_texts::report::report_text;
 use pipe_types::bytes::Bytes;
 use pipe_types::message::Place;
+use pipe_types::topology::Topology;
 use std::alloc::{AllocError, Global};
 
 /// The places of the accepted messages, in order of their numbers.
@@ -22,32 +22,32 @@ pub fn places_of(core: &Core) -> &[Place]
     core.places.as_slice()
 }
 
-/// The texts of a run: those that are shown, and the report.
+/// The texts of a run: those that are shown, and the report. The journal and the acknowledgements are made as they are written,
+/// without memory.
+#[tactic(auto, using(crate::proofs::Showing::acks_when, crate::proofs::Showing::logged_when))]
 pub fn texts_of(alloc: Global, core: &Core, shows: Shows) -> Result<Texts, AllocError>
     requires stands { Stands core.now }
-    ensures { IfOk result (λ texts. whole_text texts ≡ run_text shows core.now.topology core.now.journal.steps) }
+    ensures whole { IfOk result (λ texts. whole_text core.now.journal.steps texts ≡ run_text shows core.now.topology core.now.journal.steps) }
+    ensures logged { IfOk result (λ texts. IsLogged texts.acks core.now.journal) }
 {
-    let steps = if shows.steps {
-        Some(journal_text(alloc, core.journal())?)
-    } else {
-        None
-    };
-    let acks = if shows.acks {
-        Some(acks_of(alloc, core)?)
-    } else {
-        None
-    };
+    let acks = acks_of(alloc, core, shows.acks)?;
     let last = report_of(alloc, core)?;
-    Ok(Texts { steps, acks, last })
+    Ok(Texts {
+        steps: shows.steps,
+        acks,
+        last,
+    })
 }
 
-/// The acknowledgements of a run.
-fn acks_of(alloc: Global, core: &Core) -> Result<Bytes, AllocError>
-    requires stands { Stands core.now }
-    ensures { IfOk result (λ text. text ≡ text_of_acks core.now.topology core.now.journal.steps) }
+/// By which topology the acknowledgements are written, where they are shown.
+fn acks_of(alloc: Global, core: &Core, are_shown: bool) -> Result<Option<Topology>, AllocError>
+    ensures { IfOk result (λ acks. acks ≡ when are_shown core.now.topology) }
 {
-    let places = core.places()?;
-    ack_text(alloc, core.topology(), core.journal(), &places)
+    if are_shown {
+        Ok(Some(copy_topology(alloc, core.topology())?))
+    } else {
+        Ok(None)
+    }
 }
 
 /// The report of a run.

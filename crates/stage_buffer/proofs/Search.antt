@@ -30,14 +30,16 @@ no_later ends k None none h = λ q lt. ⊎_elim (λ same. ap ends same ∙ none)
 no_later ends k (Some f) none h =
     (h.0, λ q n lt some. ⊎_elim (λ same. absurd (none_some n (ends q) (ap ends same ∙ none) some)) (λ apart. h.1 q n (omega arith) some) (cases_eq q k))
 
+-- the first end is the only one
+only_one : (ends : ℕ → Option ℕ) (k at q n : ℕ) → ends k ≡ Some at → ((j : ℕ) → j < k → ends j ≡ None) → q < k + 1 → ends q ≡ Some n → at ≡ n
+only_one ends k at q n here none lt some =
+    ⊎_elim (λ same. same_number at n (ends k) here (ap ends (sym same) ∙ some)) (λ apart. absurd (none_some n (ends q) (none q (omega arith)) some)) (cases_eq q k)
+
 -- one more end
 one_earlier : (ends : ℕ → Option ℕ) (k at : ℕ) (found : Option (ℕ × ℕ)) → ends k ≡ Some at → IsEarliest ends k found → IsEarliest ends (k + 1) (earlier_of found k (Some at))
 one_earlier ends k at None here h = (
   here,
-  λ q n lt some. ⊎_elim
-      (λ same. let e : at ≡ n = same_number at n (ends k) here (ap ends (sym same) ∙ some) in omega arith)
-      (λ apart. absurd (none_some n (ends q) (h q (omega arith)) some))
-      (cases_eq q k),
+  λ q n lt some. let e : at ≡ n = only_one ends k at q n here h lt some in omega arith,
 )
 one_earlier ends k at (Some f) here h = ⊎_elim before after (cases_lt at f.1)
   where
@@ -64,10 +66,7 @@ one_earlier ends k at (Some f) here h = ⊎_elim before after (cases_lt at f.1)
 one_later : (ends : ℕ → Option ℕ) (k at : ℕ) (found : Option (ℕ × ℕ)) → ends k ≡ Some at → IsLatest ends k found → IsLatest ends (k + 1) (later_of found k (Some at))
 one_later ends k at None here h = (
   here,
-  λ q n lt some. ⊎_elim
-      (λ same. let e : at ≡ n = same_number at n (ends k) here (ap ends (sym same) ∙ some) in omega arith)
-      (λ apart. absurd (none_some n (ends q) (h q (omega arith)) some))
-      (cases_eq q k),
+  λ q n lt some. let e : at ≡ n = only_one ends k at q n here h lt some in omega arith,
 )
 one_later ends k at (Some f) here h = ⊎_elim after before (cases_lt f.1 at)
   where

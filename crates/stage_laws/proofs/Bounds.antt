@@ -11,16 +11,14 @@ use Rattle.pipe_types.specs.declared.message.Place.{Place}
 use Rattle.pipe_types.specs.declared.message.Place.TheVariants.{Gathered, InBatch}
 use Rattle.pipe_types.specs.declared.message.Trigger.{Trigger}
 use Rattle.pipe_types.specs.declared.step.Step.{Step}
-use Rattle.pipe_types.specs.declared.step.Step.TheVariants.{Close, Dispatch, Take, Wrote, Kill, Halt}
+use Rattle.pipe_types.specs.declared.step.Step.TheVariants.{Close, Dispatch}
 use Rattle.pipe_types.specs.Numbers.{same_stage, same_sub, batch_no}
 use Rattle.pipe_types.specs.Stages.{spec_of}
 use Rattle.pipe_model.specs.History.{History, accepted, closed}
-use Rattle.pipe_types.specs.declared.message.BatchEnd.TheVariants.{Outcomes}
 use Rattle.pipe_types.specs.declared.room.Sent.{Sent as SentUnit}
 use Rattle.pipe_model.specs.Lives.{is_live}
-use Rattle.pipe_model.specs.Batches.{Batch}
 use Rattle.pipe_model.specs.Content.{arrivals, gathers, content, key_in}
-use Rattle.pipe_model.specs.Flow.{place, batch, view_of, sent, sent_to, waiting, is_batcher, is_gathered_in, among, first_in, closing, units_on, put_in_batch, new_batch, next_units, batch_waits_in, waits_in, count_on, delivered_to, deliveries}
+use Rattle.pipe_model.specs.Flow.{place, batch, view_of, sent, sent_to, waiting, is_batcher, is_gathered_in, among, first_in, closing, units_on, put_in_batch, batch_waits_in, waits_in, count_on, delivered_to, deliveries}
 use Rattle.pipe_model.specs.Legal.{is_legal, allows, has_role, is_batcher_role}
 use Rattle.pipe_model.specs.Ledger.{handled}
 use Rattle.pipe_laws.proofs.Tests.{clash, and_left, and_right, same_stage-self, same_sub-true}
@@ -28,7 +26,7 @@ use Rattle.pipe_laws.proofs.Lists.{Each, each_always, each_weaker, each_filter}
 use Rattle.pipe_laws.proofs.Places.{move_by}
 use Rattle.pipe_laws.proofs.Levels.{rank, rank_most, level, level_most, level_grows, feeds_down}
 use Rattle.pipe_laws.proofs.Accepted.{placed_accepted}
-use Rattle.pipe_laws.proofs.Settled.{batch_closed, is_some_map}
+use Rattle.pipe_laws.proofs.Settled.{batch_within}
 use Rattle.pipe_laws.proofs.Allowed.{legal_before, legal_step, unowed}
 use Rattle.pipe_laws.proofs.Entries.{EntryFits, entries_fit, sent_exists}
 use Rattle.pipe_laws.proofs.Handled.{handled_within}
@@ -170,38 +168,21 @@ closed_few topology before h =
 
 -- a batch that stands has a number from 1
 pub batch_least : (topology : Topology) (before : History) (b : ℕ) → is_some (batch topology before b) ≡ true → 1 ≤ b
-batch_least topology [] b h = cc
-batch_least topology (Close s first trigger ∷ before) b h =
-    either (closing before (view_of topology before) s first.0) (b == closed before + 1) refl h (batch_least topology before b)
-  where
-    either : (numbers : List ℕ) (t : Bool) → (b == closed before + 1) ≡ t → is_some (new_batch t numbers s (batch topology before b)) ≡ true → (is_some (batch topology before b) ≡ true → 1 ≤ b) → 1 ≤ b
-    either numbers true e h rest = let is : b ≡ closed before + 1 = eqb-true b _ e in omega arith
-    either numbers false e h rest = rest h
-batch_least topology (Dispatch s ∷ before) b h = batch_least topology before b (is_some_map _ (batch topology before b) h)
-batch_least topology (Take s u k ∷ before) b h =
-    batch_least topology before b (either (among (next_units topology (view_of topology before) s u k) b) _ (batch topology before b) h)
-  where
-    either : (t : Bool) (f : Batch → Batch) (o : Option Batch) → is_some (if t then option_map f o else o) ≡ true → is_some o ≡ true
-    either true f o h = is_some_map f o h
-    either false f o h = h
-batch_least topology (Wrote s bytes (Outcomes outcomes) ∷ before) b h = batch_least topology before b (is_some_map _ (batch topology before b) h)
-batch_least topology (Kill s why ∷ before) b h = batch_least topology before b (is_some_map _ (batch topology before b) h)
-batch_least topology (Halt ∷ before) b h = batch_least topology before b (is_some_map _ (batch topology before b) h)
-batch_least topology (_ ∷ before) b h = batch_least topology before b h
+batch_least topology before b h = (batch_within topology before b h).0
 
 level_placed : (topology : Topology) (p : Option Place) (k : ℕ) → k + 1 ≤ level topology p → is_some p ≡ true
 level_placed topology (Some p) k h = refl
 level_placed topology None k h = absurd (omega arith)
 
 -- a batch's number is a message's number too
-batch_within : (topology : Topology) (before : History) (b : ℕ) → is_legal topology before ≡ true → is_some (batch topology before b) ≡ true → (1 ≤ b) × (b ≤ accepted before)
-batch_within topology before b h some = (batch_least topology before b some, omega (arith, batch_closed topology before b some, closed_few topology before h))
+batch_accepted : (topology : Topology) (before : History) (b : ℕ) → is_legal topology before ≡ true → is_some (batch topology before b) ≡ true → (1 ≤ b) × (b ≤ accepted before)
+batch_accepted topology before b h some = let within = batch_within topology before b some in (within.0, omega (arith, within.1, closed_few topology before h))
 
 arrived_within : (topology : Topology) (before : History) (s : StageNo) (n : ℕ) → is_legal topology before ≡ true → Arrived topology before s n → (1 ≤ n) × (n ≤ accepted before)
 arrived_within topology before s n h a = either (is_batcher (spec_of topology s)) refl
   where
     either : (b : Bool) → is_batcher (spec_of topology s) ≡ b → (1 ≤ n) × (n ≤ accepted before)
-    either true e = batch_within topology before n h (a.batched e)
+    either true e = batch_accepted topology before n h (a.batched e)
     either false e = placed_accepted topology before n (level_placed topology (place topology before n) 0 (omega (arith, a.message e)))
 
 pub waiting_within : (topology : Topology) (before : History) (s : StageNo) → Fits topology → is_legal topology before ≡ true → Each (Within (accepted before)) (waiting topology before s)
@@ -225,7 +206,7 @@ pub entry_within : (topology : Topology) (before : History) (c : StageNo) (d : S
 entry_within topology before c d h fits = either (is_batcher (spec_of topology d.0.producer)) refl
   where
     either : (b : Bool) → is_batcher (spec_of topology d.0.producer) ≡ b → (1 ≤ d.1) × (d.1 ≤ accepted before)
-    either true e = batch_within topology before d.1 h (sent_exists (batch topology before d.1) (fits.batched e))
+    either true e = batch_accepted topology before d.1 h (sent_exists (batch topology before d.1) (fits.batched e))
     either false e =
         let down = feeds_down topology d.0.producer c fits.feeding in
         placed_accepted topology before d.1 (level_placed topology (place topology before d.1) 0 (omega (arith, (fits.message e).far, down)))

@@ -1,14 +1,15 @@
 -- The stages of a sound topology by number.
-use Rattle.std.proofs.Common.{◌≡◌, ℕ, zero, suc, ◌+◌, ◌<◌, ◌≤◌, List, [], ◌∷◌, length, Bool, true, false, refl, ap, sym, ◌∙◌, subst, Some, arith}
+use Rattle.std.proofs.Common.{◌≡◌, ℕ, zero, suc, ◌+◌, ◌<◌, ◌≤◌, List, [], ◌∷◌, length, Bool, true, false, refl, ap, sym, ◌∙◌, subst, Some, arith, get_or}
 use Rattle.std.specs.Prelude.{slice_get, ◌==◌, ◌&&◌, ◌||◌, not, if◌then◌else◌, find, nat_lt, nat_le, is_some}
 use Rattle.std.proofs.lemmas.Bool.{eqb-true, ltb-true}
+use Rattle.std.proofs.lemmas.Option.{slice_get_read}
 use Rattle.pipe_types.specs.declared.numbers.StageNo.{StageNo}
 use Rattle.pipe_types.specs.declared.topology.Topology.{Topology}
 use Rattle.pipe_types.specs.declared.topology.StageSpec.{StageSpec}
 use Rattle.pipe_types.specs.declared.topology.Role.{Role}
 use Rattle.pipe_types.specs.declared.topology.Role.TheVariants.{Producer, Processor, Supervisor, Batcher, BatchProcessor}
 use Rattle.pipe_types.specs.Numbers.{same_stage}
-use Rattle.pipe_types.specs.Stages.{spec_in}
+use Rattle.pipe_types.specs.Stages.{spec_in, spec_of}
 use Rattle.pipe_types.specs.Sound.{IsSound, is_ordered, may_begin, may_go_on, may_follow, batchers, has_fields, has_fields_of, is_select_in, asks_up_to, by_demand, by_partition, by_broadcast, processors, batch_processors, is_size, no_batcher, no_demand, never_cancels, is_lines, are_rules, is_reason, is_between}
 use Rattle.pipe_laws.proofs.Tests.{and_left, and_right, same_stage-true}
 use Rattle.pipe_laws.proofs.Lists.{Each}
@@ -96,3 +97,10 @@ numbered_topology topology sound =
   where
     numbers : (i : ℕ) (spec : StageSpec) → slice_get topology.stages i ≡ Some spec → spec.no.0 ≡ suc i
     numbers i spec e = ordered_numbers topology.stages sound.ordered i spec e
+
+-- a stage that is read from the list is its number's
+pub stage_there : (topology : Topology) (specs : List StageSpec) (i : ℕ) (spec : StageSpec) → IsSound topology → specs ≡ topology.stages → i < length specs → spec ≡ get_or specs i spec
+    → spec_of topology spec.no ≡ Some spec
+stage_there topology specs i spec sound is below read =
+    let at : slice_get specs i ≡ Some spec = slice_get_read specs (length specs) i spec refl below read in
+    (numbered_topology topology sound).found i spec (ap (λ xs. slice_get xs i) (sym is) ∙ at)

@@ -1,6 +1,6 @@
 -- A batch's messages after a leg was answered.
 use Rattle.std.proofs.Common.{◌≡◌, ℕ, ◌+◌, List, [], ◌∷◌, Bool, true, false, refl, ap, sym, ◌∙◌, Some, None, Option, subst}
-use Rattle.std.specs.Prelude.{option_map, if◌then◌else◌, ◌==◌, ◌&&◌, ◌||◌, not, is_some, unwrap_or, position}
+use Rattle.std.specs.Prelude.{option_map, if◌then◌else◌, ◌==◌, ◌&&◌, ◌||◌, not, unwrap_or, position}
 use Rattle.std.proofs.lemmas.Bool.{eq-eqb, eqb-true, false_from_ne_true}
 use Rattle.pipe_types.specs.declared.numbers.StageNo.{StageNo}
 use Rattle.pipe_types.specs.declared.numbers.BatchNo.{BatchNo}
@@ -16,12 +16,11 @@ use Rattle.pipe_model.specs.History.{History, closed}
 use Rattle.pipe_model.specs.Batches.{Batch, Sent, Leg, is_settled, settled_as, lost_leg, failed_leg, on_legs, leg_answered, batch_on_legs}
 use Rattle.pipe_model.specs.Flow.{place, batch, view_of, among, closing, put_in_batch, numbers_in, by_batch, place_in_batch, new_batch, change_place}
 use Rattle.pipe_model.specs.Work.{taken_units}
-use Rattle.pipe_model.specs.Moves.{is_final}
 use Rattle.pipe_model.specs.Legal.{is_legal}
 use Rattle.pipe_laws.proofs.Tests.{clash}
 use Rattle.pipe_laws.proofs.Lists.{each_among}
-use Rattle.pipe_laws.proofs.Places.{Move, stays, comes, comes_lost, sent_on, runs, waits, is_gathered, joins, ends, move_by, closes}
-use Rattle.pipe_laws.proofs.Progress.{in_batch_going}
+use Rattle.pipe_laws.proofs.Places.{move_by}
+use Rattle.pipe_laws.proofs.Progress.{in_batch_before, in_batch_going, progress_exists}
 use Rattle.pipe_laws.proofs.Allowed.{legal_before}
 use Rattle.queue_laws.proofs.Batched.{BatchHolds, batch_holds}
 use Rattle.queue_laws.proofs.Writes.{wrote_others}
@@ -29,30 +28,10 @@ use Rattle.queue_laws.proofs.OneLeg.{numbers_kept}
 use Rattle.pipe_model.specs.Standing.{in_progress}
 use Rattle.queue_laws.proofs.Batched.{going_in}
 
-in_progress_some : (o : Option Batch) → in_progress o ≡ true → is_some o ≡ true
-in_progress_some None k = cc
-in_progress_some (Some x) k = refl
-
--- a step that closes no batch puts no message in one
-was_in : (topology : Topology) (before : History) (step : Step) (b : BatchNo) (p q : Option Place) → Move topology before step p q → closes step ≡ false → q ≡ Some (InBatch b) → p ≡ Some (InBatch b)
-was_in topology before step b p q stays c e = e
-was_in topology before step b p q (comes s) c e = cc
-was_in topology before step b p q (comes_lost l) c e = cc
-was_in topology before step b p q (sent_on s u on) c e = cc
-was_in topology before step b p q (runs u from) c e = cc
-was_in topology before step b p q (waits s) c e = cc
-was_in topology before step b p q (is_gathered u) c e = cc
-was_in topology before step b p q (joins s d from) c e = clash (closes step) from c
-was_in topology before step b p q (ends x y final) c e = absurd (no_final y final e)
-  where
-    no_final : (y : Place) → is_final (Some y) ≡ true → Some y ≡ Some (InBatch b) → ⊥
-    no_final (Acked o) f h = cc
-    no_final _ f h = cc
-
 -- a message in a batch is one of its numbers
 kept_in : (topology : Topology) (before : History) (step : Step) (n : ℕ) (b : BatchNo) → place topology before n ≡ Some (InBatch b) → among (numbers_in (batch topology before b.0)) n ≡ true → among (numbers_in (batch topology (step ∷ before) b.0)) n ≡ true
 kept_in topology before step n b e old =
-    ap (λ ns. among ns n) (numbers_kept topology before step b.0 (in_progress_some (batch topology before b.0) (in_batch_going topology before n b e))) ∙ old
+    ap (λ ns. among ns n) (numbers_kept topology before step b.0 (progress_exists (batch topology before b.0) (in_batch_going topology before n b e))) ∙ old
 
 pub in_numbers : (topology : Topology) (before : History) (n : ℕ) (b : BatchNo) → place topology before n ≡ Some (InBatch b) → among (numbers_in (batch topology before b.0)) n ≡ true
 in_numbers topology [] n b e = cc
@@ -75,7 +54,7 @@ in_numbers topology (Close s first trigger ∷ before) n b e = by (place topolog
         either false y e k = cc
     by _ was h old = cc
 in_numbers topology (step ∷ before) n b e =
-    let was = was_in topology before step b (place topology before n) (place topology (step ∷ before) n) (move_by topology before step n) refl e in
+    let was = in_batch_before topology before step b (place topology before n) (place topology (step ∷ before) n) (move_by topology before step n) refl e in
     kept_in topology before step n b was (in_numbers topology before n b was)
 
 -- where the messages of a batch stand once its legs are so

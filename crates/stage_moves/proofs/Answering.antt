@@ -63,21 +63,19 @@ answer_begins before p (came.Replies replies) = none_more (jobs_begun before)
 answer_begins before p (came.Wrote bytes end) = none_more (jobs_begun before)
 answer_begins before p (came.Reply reply) = none_more (jobs_begun before)
 
+answer_clock : (before : History) (p : Post) (o : Came) → (now (step_of p o ∷ before) ≡ now before) × (still_ticks (step_of p o ∷ before) ≡ still_ticks before)
+answer_clock before p (came.Records records) = (refl, refl)
+answer_clock before p came.NotYet = (refl, refl)
+answer_clock before p (came.Ended how) = (refl, refl)
+answer_clock before p (came.Replies replies) = (refl, refl)
+answer_clock before p (came.Wrote bytes end) = (refl, refl)
+answer_clock before p (came.Reply reply) = (refl, refl)
+
 pub answer_time : (before : History) (p : Post) (o : Came) → now (step_of p o ∷ before) ≡ now before
-answer_time before p (came.Records records) = refl
-answer_time before p came.NotYet = refl
-answer_time before p (came.Ended how) = refl
-answer_time before p (came.Replies replies) = refl
-answer_time before p (came.Wrote bytes end) = refl
-answer_time before p (came.Reply reply) = refl
+answer_time before p o = (answer_clock before p o).0
 
 pub answer_still : (before : History) (p : Post) (o : Came) → still_ticks (step_of p o ∷ before) ≡ still_ticks before
-answer_still before p (came.Records records) = refl
-answer_still before p came.NotYet = refl
-answer_still before p (came.Ended how) = refl
-answer_still before p (came.Replies replies) = refl
-answer_still before p (came.Wrote bytes end) = refl
-answer_still before p (came.Reply reply) = refl
+answer_still before p o = (answer_clock before p o).1
 
 pub answer_other : (p : Post) (o : Came) → 1 ≤ p.stage.0 → IsOther (step_of p o)
 answer_other p (came.Records records) low = record { control = refl; ends = refl; jobless = refl }

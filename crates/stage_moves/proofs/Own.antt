@@ -18,29 +18,23 @@ use Rattle.control_lines.specs.Steps.{jobs_begun, still_ticks}
 use Rattle.stage_moves.proofs.Moves.{is_named}
 use Rattle.stage_moves.proofs.Controls.{IsOther}
 
+named_both : (step : Step) → is_named step ≡ true → (is_own_step step ≡ true) × (is_work step ≡ true)
+named_both (Ask u n) h = (refl, refl)
+named_both (Dispatch s) h = (refl, refl)
+named_both (Gather s m) h = (refl, refl)
+named_both (Close s first trigger) h = (refl, refl)
+named_both (Restart s) h = (refl, refl)
+named_both (Drain Sources) h = (refl, refl)
+named_both (Drain Limit) h = (refl, refl)
+named_both (Drain Idle) h = (refl, refl)
+named_both Halt h = (refl, refl)
+named_both step h = (cc, cc)
+
 pub named_own : (step : Step) → is_named step ≡ true → is_own_step step ≡ true
-named_own (Ask u n) h = refl
-named_own (Dispatch s) h = refl
-named_own (Gather s m) h = refl
-named_own (Close s first trigger) h = refl
-named_own (Restart s) h = refl
-named_own (Drain Sources) h = refl
-named_own (Drain Limit) h = refl
-named_own (Drain Idle) h = refl
-named_own Halt h = refl
-named_own step h = cc
+named_own step h = (named_both step h).0
 
 pub named_work : (step : Step) → is_named step ≡ true → is_work step ≡ true
-named_work (Ask u n) h = refl
-named_work (Dispatch s) h = refl
-named_work (Gather s m) h = refl
-named_work (Close s first trigger) h = refl
-named_work (Restart s) h = refl
-named_work (Drain Sources) h = refl
-named_work (Drain Limit) h = refl
-named_work (Drain Idle) h = refl
-named_work Halt h = refl
-named_work step h = cc
+named_work step h = (named_both step h).1
 
 pub named_next : (topology : Topology) (before : History) (step : Step) → is_named step ≡ true → move topology before ≡ StepMove step → IsNextMove topology before step
 named_next topology before (Ask u n) h e = e

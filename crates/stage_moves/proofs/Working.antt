@@ -51,62 +51,43 @@ fetch_undrained topology before s n h =
 posts_itself : (p : Post) (s : StageNo) (slot : ℕ) → p ≡ post s slot → same_post p (post s slot) ≡ true
 posts_itself p s slot e = ap (λ q. same_post q (post s slot)) e ∙ same_post-self (post s slot)
 
+-- it begins by this step
+began_by : (topology : Topology) (before after : History) (p : Post) (step : Step) → after ≡ step ∷ before → puts_out step p ≡ true → IsNextMove topology before step → is_silent step ≡ true
+    → now (step ∷ before) ≡ now before → still_ticks (step ∷ before) ≡ still_ticks before → jobs_begun (step ∷ before) ≡ 1 + jobs_begun before → begins step ≡ true
+    → work_left topology (step ∷ before) ≤ work_left topology before → (1 ≤ topology.idle_limit → quiet_row (step ∷ before) < topology.idle_limit) → Began topology before after p
+began_by topology before after p step is puts next silent same_time same_still begun job left row = record {
+  step = step;
+  is = is;
+  puts = puts;
+  next = next;
+  silent = silent;
+  same_time = same_time;
+  same_still = same_still;
+  begun = begun;
+  job = job;
+  left = left;
+  row = row;
+}
+
+below : {a b : ℕ} → a < b → a ≤ b
+below h = omega (arith, h)
+
 pub began : (topology : Topology) (before after : History) (s : StageNo) (job : Job) → IsSound topology → is_legal topology after ≡ true → owed topology before ≡ None → move topology before ≡ JobMove s
     → IsBegun topology before s after job → Began topology before after job.post
 began topology before after s job sound legal free first (fetched p e) =
     let step = Fetch s (bound topology before s) in
-    let fetch_legal = subst (λ h. is_legal topology h ≡ true) e legal in
-    record {
-      step = step;
-      is = e;
-      puts = posts_itself job.post s 0 p;
-      next = first;
-      silent = refl;
-      same_time = refl;
-      same_still = refl;
-      begun = refl;
-      job = refl;
-      left = same_left (fetch_keeps topology before s (bound topology before s));
-      row = λ limit. idle_law topology before s free (fetch_undrained topology before s (bound topology before s) (legal_step topology before step fetch_legal)) first limit;
-    }
+    let fetch_legal = legal_step topology before step (subst (λ h. is_legal topology h ≡ true) e legal) in
+    began_by topology before after job.post step e (posts_itself job.post s 0 p) first refl refl refl refl refl (same_left (fetch_keeps topology before s (bound topology before s)))
+    (λ limit. idle_law topology before s free (fetch_undrained topology before s (bound topology before s) fetch_legal) first limit)
   where
     same_left : work_left topology (Fetch s (bound topology before s) ∷ before) ≡ work_left topology before → work_left topology (Fetch s (bound topology before s) ∷ before) ≤ work_left topology before
     same_left h = omega (arith, h)
 began topology before after s job sound legal free first (taken u k p t e) =
-    record {
-      step = Take s u k;
-      is = e;
-      puts = posts_itself job.post s 0 p;
-      next = first;
-      silent = refl;
-      same_time = refl;
-      same_still = refl;
-      begun = refl;
-      job = refl;
-      left = below (work_lowers topology before (Take s u k) sound (subst (λ h. is_legal topology h ≡ true) e legal) refl);
-      row = λ limit. limit;
-    }
-  where
-    below : work_left topology (Take s u k ∷ before) < work_left topology before → work_left topology (Take s u k ∷ before) ≤ work_left topology before
-    below h = omega (arith, h)
+    let step = Take s u k in
+    began_by topology before after job.post step e (posts_itself job.post s 0 p) first refl refl refl refl refl (below (work_lowers topology before step sound (subst (λ h. is_legal topology h ≡ true) e legal) refl)) (λ limit. limit)
 began topology before after s job sound legal free first (started slot p e) =
-    record {
-      step = Child s (message_no (next_in_slot topology before s slot)) slot;
-      is = e;
-      puts = posts_itself job.post s slot p;
-      next = first;
-      silent = refl;
-      same_time = refl;
-      same_still = refl;
-      begun = refl;
-      job = refl;
-      left = below (work_lowers topology before (Child s (message_no (next_in_slot topology before s slot)) slot) sound (subst (λ h. is_legal topology h ≡ true) e legal) refl);
-      row = λ limit. limit;
-    }
-  where
-    below : work_left topology (Child s (message_no (next_in_slot topology before s slot)) slot ∷ before) < work_left topology before
-        → work_left topology (Child s (message_no (next_in_slot topology before s slot)) slot ∷ before) ≤ work_left topology before
-    below h = omega (arith, h)
+    let step = Child s (message_no (next_in_slot topology before s slot)) slot in
+    began_by topology before after job.post step e (posts_itself job.post s slot p) first refl refl refl refl refl (below (work_lowers topology before step sound (subst (λ h. is_legal topology h ≡ true) e legal) refl)) (λ limit. limit)
 
 -- one post alone is put out
 pub put_only : (p q : Post) (begin : Step) → puts_out begin p ≡ true → puts_out begin q ≡ true → q ≡ p

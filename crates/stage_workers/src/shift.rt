@@ -23,6 +23,17 @@ pub enum Round<L> {
     Ended,
 }
 
+/// What another worker would do in a value that one goes away from, as far as that can be told without doing it.
+#[derive(Clone, Copy, PartialEq, Eq)]
+pub enum Ahead {
+    /// It would sleep: nothing is new.
+    Nothing,
+    /// What is soon done, or to keep the time.
+    Little,
+    /// A job that may take long.
+    Job,
+}
+
 /// A value of which workers take jobs away, and bring home what comes of them.
 pub trait Shift: Held {
     /// A job, with what it needs.
@@ -61,9 +72,9 @@ pub trait Shift: Held {
         ensures away { AreAway (brought_post home_post brought) (job_post load_post result) (Self.away self.old) (Self.away self.new) }
         ensures recorded { IfSome brought (is_recorded self.old self.new) };
 
-    /// Whether sources were found empty since anything else happened. The next job is then no news to another worker.
-    fn is_silent(&self) -> bool {
-        false
+    /// What another worker would do now.
+    fn ahead(&self) -> Ahead {
+        Ahead::Job
     }
 
     /// Does the job.

@@ -4,7 +4,8 @@ ghost use Rattle.std.specs.Prelude.{◌≡◌, ◌-◌, ◌≤◌, false, true, 
 ghost use Rattle.pipeline_turn.specs.Seats.{IsIdle, IsSameSeat};
 ghost use Rattle.stage_workers.specs.{Rounds.{job_post, brought_post}, Holds.{post_after, Comes, after_round}};
 
-use crate::shift::{Round, Shift};
+use crate::habit::Habit;
+use crate::shift::{Ahead, Round, Shift};
 use pipe_types::numbers::Post;
 use pipeline_turn::{Seat, Turn};
 use std::alloc::Global;
@@ -43,16 +44,42 @@ fn job_for<H: Shift>(round: &Round<H::Load>) -> Option<Post>
     }
 }
 
+/// Tells of what is left to do, as the worker goes away with a job. It wakes another for a job, and where little is left only as its
+/// habit says; the news counts all the same, so that nobody sleeps long while there is any.
+fn tell_ahead<H: Shift>(turn: &Turn<H>, seat: &mut Seat<H>, value: &H, habit: &mut Habit)
+    requires of_this_turn { seat.old.turn ≡ turn.now.identity }
+    requires holding { seat.old.holds ≡ true }
+    ensures { seat.new ≡ seat.old }
+{
+    match value.ahead() {
+        Ahead::Nothing => habit.forget(),
+        Ahead::Little => {
+            if habit.wakes(value.journal().len()) {
+                turn.tell(seat);
+            } else {
+                turn.note(seat);
+            }
+        }
+        Ahead::Job => turn.tell(seat),
+    }
+}
+
 /// Tells another worker where there may be something to do for it: another job, or to end.
-fn tell_of<H: Shift>(turn: &Turn<H>, seat: &mut Seat<H>, round: &Round<H::Load>, is_silent: bool)
+fn tell_of<H: Shift>(
+    turn: &Turn<H>,
+    seat: &mut Seat<H>,
+    value: &H,
+    round: &Round<H::Load>,
+    habit: &mut Habit,
+)
     requires of_this_turn { seat.old.turn ≡ turn.now.identity }
     requires holding { seat.old.holds ≡ true }
     ensures { seat.new ≡ seat.old }
 {
     match round {
-        Round::Job(_) if !is_silent => turn.tell(seat),
+        Round::Job(_) => tell_ahead(turn, seat, value, habit),
         Round::Ended => turn.tell(seat),
-        _ => {}
+        Round::Waits | Round::Again => habit.forget(),
     }
 }
 
@@ -73,6 +100,7 @@ fn hold<H: Shift>(
     turn: &Turn<H>,
     seat: &mut Seat<H>,
     brought: Option<H::Home>,
+    habit: &mut Habit,
 ) -> After<H::Load, H::Home>
     requires of_this_turn { seat.old.turn ≡ turn.now.identity }
     requires free { seat.old.holds ≡ false }
@@ -84,12 +112,14 @@ fn hold<H: Shift>(
     ensures comes { Comes (H.is_load_of seat.new.origin seat.new.seen) (H.is_home_of seat.new.origin seat.new.seen) result }
 {
     let Some(mut value) = turn.take(seat) else {
+        habit.misses();
         return After::Missed(brought);
     };
     let before = value.journal().len();
+    habit.has_back(before);
     let round = value.round(brought);
     let is_still = is_reading(before, value.journal().len());
-    tell_of(turn, seat, &round, value.is_silent());
+    tell_of(turn, seat, &value, &round, habit);
     let news = turn.news(seat);
     let job = job_for::<H>(&round);
     turn.give(seat, value, job);
@@ -122,11 +152,21 @@ pub fn work<H: Shift, R: Wait>(rt: &R, alloc: Global, turn: &Turn<H>, seat: &mut
     let mut brought = None;
     let mut heard = 0;
     let mut slept = 0;
+    let mut habit = Habit::new();
     for _ in rt.forever() {
-        match hold(turn, seat, brought) {
-            After::Missed(back) => {
-                turn.rest(rt);
-                brought = back;
+        let by_now = turn.news_by_now();
+        match hold(turn, seat, brought, &mut habit) {
+            // Who brings something waits for the value itself, and who does not for news, unless the value is soon at home: whoever
+            // has it tells where there is something to do, and may have told just before.
+            After::Missed(Some(home)) => {
+                turn.rest(rt, seat);
+                brought = Some(home);
+            }
+            After::Missed(None) => {
+                if !turn.is_home_soon() {
+                    turn.wait_for(rt, by_now, Duration::from_millis(LEAST_MS));
+                }
+                brought = None;
             }
             After::Job(load) => {
                 slept = 0;

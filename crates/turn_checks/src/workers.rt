@@ -113,7 +113,7 @@ fn work<H: Logs, R: Wait>(rt: &R, turn: &Turn<H>, seat: &mut Seat<H>, rounds: u3
         match hold(turn, seat, brought) {
             Err(job) => {
                 brought = job;
-                turn.rest(rt);
+                turn.rest(rt, seat);
             }
             Ok(Given { entry, steps, news }) => match entry {
                 Entry::Out(job) => brought = Some(job.run()),

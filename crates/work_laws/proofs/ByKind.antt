@@ -44,7 +44,7 @@ use Rattle.core_laws.proofs.Past.{out_post}
 use Rattle.work_laws.specs.Work.{how_many, is_intake, is_dispatch, is_take, is_reply, is_child, is_child_end}
 use Rattle.work_laws.specs.Limits.{number_of_stages, most_moves, most_units, most_takes, most_dispatches, most_children, most_child_ends}
 use Rattle.work_laws.proofs.Keys.{Among, among_below, length_below, below, among_pairs, length_pairs, pairs, stage_numbers, stage_among, weigh_most}
-use Rattle.work_laws.proofs.Spread.{Counted, spread, how_many_grows, how_many_more}
+use Rattle.work_laws.proofs.Spread.{Counted, spread, how_many_grows, how_many_more, Spreads, no_less}
 use Rattle.std.proofs.lemmas.List.{length-map}
 
 -- Intakes
@@ -123,25 +123,20 @@ role_spec topology s one h = by_spec (spec_of topology s) refl
 pub role_among : (topology : Topology) (s : StageNo) (one : Role → Bool) → has_role topology s one ≡ true → Among s (stage_numbers topology.stages)
 role_among topology s one h = let found = role_spec topology s one h in stage_among topology.stages s found.0 found.1
 
--- so many stages
-pub stages_weigh : (topology : Topology) (g : StageNo → ℕ) (most : ℕ) → ((s : StageNo) → g s ≤ most) → weigh g (stage_numbers topology.stages) ≤ number_of_stages topology * most
-stages_weigh topology g most f =
-    subst (λ n. weigh g (stage_numbers topology.stages) ≤ n * most) (length-map topology.stages (λ (spec : StageSpec). spec.no)) (weigh_most g most (stage_numbers topology.stages) f)
+-- as many steps of a kind as stages, times what counts for one of them
+pub over_stages : (topology : Topology) (test : Step → Bool) (f : History → StageNo → ℕ) (most : ℕ) → Spreads topology test f (stage_numbers topology.stages) → (before : History) → is_legal topology before ≡ true → ((s : StageNo) → f before s ≤ most)
+    → how_many test before ≤ number_of_stages topology * most
+over_stages topology test f most kind before legal few =
+    let all = spread topology test f (stage_numbers topology.stages) kind before legal in
+    let each = subst (λ n. weigh (f before) (stage_numbers topology.stages) ≤ n * most) (length-map topology.stages (λ (spec : StageSpec). spec.no)) (weigh_most (f before) most (stage_numbers topology.stages) few) in
+    omega (arith, all, each)
 
 pub takes_all : (topology : Topology) (before : History) → IsSound topology → is_legal topology before ≡ true → how_many is_take before ≤ most_takes topology
 takes_all topology before sound h =
-    omega (
-      arith,
-      spread topology is_take takes (stage_numbers topology.stages) (record { grows = grows; counts = counts }) before h,
-      stages_weigh topology (takes before) (most_units topology) (λ s. takes_few topology before s sound h),
-    )
+    over_stages topology is_take takes (most_units topology) (record { grows = grows; counts = counts }) before h (λ s. takes_few topology before s sound h)
   where
     grows : (before : History) (step : Step) (s : StageNo) → takes before s ≤ takes (step ∷ before) s
-    grows before (Take t u k) s = either (same_stage s t)
-      where
-        either : (b : Bool) → takes before s ≤ (if b then takes before s + 1 else takes before s)
-        either true = omega arith
-        either false = omega arith
+    grows before (Take t u k) s = no_less (same_stage s t) (takes before s)
     grows before _ s = omega arith
 
     counts : (before : History) (step : Step) → is_legal topology (step ∷ before) ≡ true → is_take step ≡ true → Counted takes (stage_numbers topology.stages) before step
@@ -220,11 +215,7 @@ replies_of topology before s sound h = by_role (has_role topology s takes_role) 
 
 pub replies_all : (topology : Topology) (before : History) → IsSound topology → is_legal topology before ≡ true → how_many is_reply before ≤ most_takes topology
 replies_all topology before sound h =
-    omega (
-      arith,
-      spread topology is_reply (λ past s. how_many (is_reply_of s) past) (stage_numbers topology.stages) (record { grows = λ past step s. how_many_grows (is_reply_of s) past step; counts = counts }) before h,
-      stages_weigh topology (λ s. how_many (is_reply_of s) before) (most_units topology) (λ s. replies_of topology before s sound h),
-    )
+    over_stages topology is_reply (λ past s. how_many (is_reply_of s) past) (most_units topology) (record { grows = λ past step s. how_many_grows (is_reply_of s) past step; counts = counts }) before h (λ s. replies_of topology before s sound h)
   where
     one : (before : History) (step : Step) (t : StageNo) → is_legal topology (step ∷ before) ≡ true → is_reply_of t step ≡ true → Counted (λ past s. how_many (is_reply_of s) past) (stage_numbers topology.stages) before step
     one before step t l e =
@@ -342,19 +333,19 @@ slot_among topology before step s slot sound h e =
     let found = some_spec topology s at.known in
     among_pairs s slot (stage_numbers topology.stages) (below 16) (stage_among topology.stages s found.0 found.1) (among_below slot 16 at.low)
 
-pub slots_weigh : (topology : Topology) (g : StageNo × ℕ → ℕ) (most : ℕ) → ((p : StageNo × ℕ) → g p ≤ most) → weigh g (stage_slots topology) ≤ number_of_stages topology * 16 * most
-slots_weigh topology g most f =
+pub over_slots : (topology : Topology) (test : Step → Bool) (f : History → StageNo × ℕ → ℕ) (most : ℕ) → Spreads topology test f (stage_slots topology) → (before : History) → is_legal topology before ≡ true → ((p : StageNo × ℕ) → f before p ≤ most)
+    → how_many test before ≤ number_of_stages topology * 16 * most
+over_slots topology test f most kind before legal few =
+    let all = spread topology test f (stage_slots topology) kind before legal in
     let long : length (stage_slots topology) ≡ number_of_stages topology * 16 =
     length_pairs (stage_numbers topology.stages) (below 16) ∙ (λ i. length-map topology.stages (λ (spec : StageSpec). spec.no) i * length_below 16 i) in
-    subst (λ n. weigh g (stage_slots topology) ≤ n * most) long (weigh_most g most (stage_slots topology) f)
+    let each = subst (λ n. weigh (f before) (stage_slots topology) ≤ n * most) long (weigh_most (f before) most (stage_slots topology) few) in
+    omega (arith, all, each)
 
 pub child_ends_all : (topology : Topology) (before : History) → IsSound topology → is_legal topology before ≡ true → how_many is_child_end before ≤ most_child_ends topology
 child_ends_all topology before sound h =
-    omega (
-      arith,
-      spread topology is_child_end (λ past p. how_many (is_child_end_at (post p.0 p.1)) past) (stage_slots topology) (record { grows = λ past step p. how_many_grows (is_child_end_at (post p.0 p.1)) past step; counts = counts }) before h,
-      slots_weigh topology (λ p. how_many (is_child_end_at (post p.0 p.1)) before) (most_children topology) (λ p. ends_at topology before p.0 p.1 sound h),
-    )
+    over_slots topology is_child_end (λ past p. how_many (is_child_end_at (post p.0 p.1)) past) (most_children topology) (record { grows = λ past step p. how_many_grows (is_child_end_at (post p.0 p.1)) past step; counts = counts }) before h
+    (λ p. ends_at topology before p.0 p.1 sound h)
   where
     counts : (before : History) (step : Step) → is_legal topology (step ∷ before) ≡ true → is_child_end step ≡ true → Counted {K = StageNo × ℕ} (λ past p. how_many (is_child_end_at (post p.0 p.1)) past) (stage_slots topology) before step
     counts before (ChildEnd t k reply) l e =

@@ -25,7 +25,7 @@ use Rattle.count_laws.proofs.Crashes.{ended_rests}
 use Rattle.work_laws.specs.Work.{how_many, is_source_end, is_refusal}
 use Rattle.work_laws.specs.Limits.{number_of_stages, most_source_ends}
 use Rattle.work_laws.proofs.Keys.{Among, stage_numbers, weigh_most}
-use Rattle.work_laws.proofs.Spread.{Counted, spread, how_many_grows, how_many_more}
+use Rattle.work_laws.proofs.Spread.{Counted, at_most_one, spread, how_many_grows, how_many_more}
 use Rattle.work_laws.proofs.ByKind.{role_among}
 
 -- Ends of sources
@@ -80,14 +80,10 @@ ends_within topology (step ∷ before) s h = by_step step h (ends_within topolog
 pub source_ends_all : (topology : Topology) (before : History) → IsSound topology → is_legal topology before ≡ true → how_many is_source_end before ≤ most_source_ends topology
 source_ends_all topology before sound h =
     let all : how_many is_source_end before ≤ weigh (λ s. how_many (is_end_of s) before) (stage 0 ∷ stage_numbers topology.stages) = spread topology is_source_end (λ past s. how_many (is_end_of s) past) (stage 0 ∷ stage_numbers topology.stages) (record { grows = λ past step s. how_many_grows (is_end_of s) past step; counts = counts }) before h in
-    let most : weigh (λ s. how_many (is_end_of s) before) (stage 0 ∷ stage_numbers topology.stages) ≤ suc (length (stage_numbers topology.stages)) * 1 = weigh_most (λ s. how_many (is_end_of s) before) 1 (stage 0 ∷ stage_numbers topology.stages) (λ s. omega (arith, ends_within topology before s h, one (has_ended before s))) in
+    let most : weigh (λ s. how_many (is_end_of s) before) (stage 0 ∷ stage_numbers topology.stages) ≤ suc (length (stage_numbers topology.stages)) * 1 = weigh_most (λ s. how_many (is_end_of s) before) 1 (stage 0 ∷ stage_numbers topology.stages) (λ s. omega (arith, ends_within topology before s h, at_most_one (has_ended before s))) in
     let long : length (stage_numbers topology.stages) ≡ number_of_stages topology = length-map topology.stages (λ (spec : StageSpec). spec.no) in
     omega (arith, all, most, long)
   where
-    one : (b : Bool) → as_number b ≤ 1
-    one true = omega arith
-    one false = omega arith
-
     counts : (before : History) (step : Step) → is_legal topology (step ∷ before) ≡ true → is_source_end step ≡ true → Counted {K = StageNo} (λ past s. how_many (is_end_of s) past) (stage 0 ∷ stage_numbers topology.stages) before step
     counts before (SourceEnd t how) l e = record { key = t; there = (ending topology before t how l).there; more = how_many_more (is_end_of t) before (SourceEnd t how) (same_stage-self t) }
     counts before _ l e = let x : false ≡ true = e in cc
@@ -105,11 +101,7 @@ drains_within topology (step ∷ before) h = by_step step (legal_step topology b
     by_step _ l old = omega (arith, old)
 
 pub drains_all : (topology : Topology) (before : History) → is_legal topology before ≡ true → how_many is_drain before ≤ 1
-drains_all topology before h = omega (arith, drains_within topology before h, one (happened is_drain before))
-  where
-    one : (b : Bool) → as_number b ≤ 1
-    one true = omega arith
-    one false = omega arith
+drains_all topology before h = omega (arith, drains_within topology before h, at_most_one (happened is_drain before))
 
 -- Refusals
 

@@ -30,8 +30,8 @@ use Rattle.count_laws.proofs.Steps.{controls_within, answered_out}
 use Rattle.work_laws.specs.Work.{how_many, is_reply, is_killing, is_restart}
 use Rattle.work_laws.specs.Limits.{most_kills, most_lives, most_restarts, most_late}
 use Rattle.work_laws.proofs.Keys.{stage_numbers, stage_among}
-use Rattle.work_laws.proofs.Spread.{Counted, spread, how_many_grows, how_many_more}
-use Rattle.work_laws.proofs.ByKind.{replies_all, stages_weigh, stage_slots, slot_among, slots_weigh}
+use Rattle.work_laws.proofs.Spread.{Counted, at_most_one, how_many_grows, how_many_more, no_less}
+use Rattle.work_laws.proofs.ByKind.{replies_all, over_stages, stage_slots, slot_among, over_slots}
 
 -- Kills
 
@@ -77,11 +77,7 @@ kills_within topology (step ∷ before) h = by_step step (legal_step topology be
     by_step _ l old = omega (arith, old)
 
 kills_few : (topology : Topology) (before : History) → IsSound topology → is_legal topology before ≡ true → kills before ≤ most_kills topology
-kills_few topology before sound h = omega (arith, kills_within topology before h, controls_within topology before h, replies_all topology before sound h, one (happened is_halt before))
-  where
-    one : (b : Bool) → as_number b ≤ 1
-    one true = omega arith
-    one false = omega arith
+kills_few topology before sound h = omega (arith, kills_within topology before h, controls_within topology before h, replies_all topology before sound h, at_most_one (happened is_halt before))
 
 killings_are : (before : History) → how_many is_killing before ≤ kills before
 killings_are [] = omega arith
@@ -99,18 +95,10 @@ lives_few topology before s sound h = omega (arith, restarts_within topology bef
 
 pub restarts_all : (topology : Topology) (before : History) → IsSound topology → is_legal topology before ≡ true → how_many is_restart before ≤ most_restarts topology
 restarts_all topology before sound h =
-    omega (
-      arith,
-      spread topology is_restart incarnation (stage_numbers topology.stages) (record { grows = grows; counts = counts }) before h,
-      stages_weigh topology (incarnation before) (most_lives topology) (λ s. lives_few topology before s sound h),
-    )
+    over_stages topology is_restart incarnation (most_lives topology) (record { grows = grows; counts = counts }) before h (λ s. lives_few topology before s sound h)
   where
     grows : (before : History) (step : Step) (s : StageNo) → incarnation before s ≤ incarnation (step ∷ before) s
-    grows before (Restart t) s = either (same_stage s t)
-      where
-        either : (b : Bool) → incarnation before s ≤ (if b then incarnation before s + 1 else incarnation before s)
-        either true = omega arith
-        either false = omega arith
+    grows before (Restart t) s = no_less (same_stage s t) (incarnation before s)
     grows before _ s = omega arith
 
     counts : (before : History) (step : Step) → is_legal topology (step ∷ before) ≡ true → is_restart step ≡ true → Counted incarnation (stage_numbers topology.stages) before step
@@ -254,11 +242,8 @@ late_within topology (step ∷ before) s slot sound h = late_step topology befor
 
 pub late_all : (topology : Topology) (before : History) → IsSound topology → is_legal topology before ≡ true → how_many is_late before ≤ most_late topology
 late_all topology before sound h =
-    omega (
-      arith,
-      spread topology is_late (λ past p. how_many (is_late_at (post p.0 p.1)) past) (stage_slots topology) (record { grows = λ past step p. how_many_grows (is_late_at (post p.0 p.1)) past step; counts = counts }) before h,
-      slots_weigh topology (λ p. how_many (is_late_at (post p.0 p.1)) before) (most_lives topology) (λ p. omega (arith, late_within topology before p.0 p.1 sound h, lives_few topology before p.0 sound h)),
-    )
+    over_slots topology is_late (λ past p. how_many (is_late_at (post p.0 p.1)) past) (most_lives topology) (record { grows = λ past step p. how_many_grows (is_late_at (post p.0 p.1)) past step; counts = counts }) before h
+    (λ p. omega (arith, late_within topology before p.0 p.1 sound h, lives_few topology before p.0 sound h))
   where
     counts : (before : History) (step : Step) → is_legal topology (step ∷ before) ≡ true → is_late step ≡ true → Counted {K = StageNo × ℕ} (λ past p. how_many (is_late_at (post p.0 p.1)) past) (stage_slots topology) before step
     counts before (Late t k i answer) l e =

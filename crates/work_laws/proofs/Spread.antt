@@ -1,5 +1,5 @@
 -- Steps of a kind, spread over keys.
-use Rattle.std.proofs.Common.{◌≡◌, ℕ, ◌+◌, ◌≤◌, List, [], ◌∷◌, Bool, true, false, refl, ap, arith}
+use Rattle.std.proofs.Common.{◌≡◌, ℕ, ◌+◌, ◌≤◌, List, [], ◌∷◌, Bool, true, false, refl, ap, if◌then◌else◌, arith}
 use Rattle.pipe_types.specs.declared.topology.Topology.{Topology}
 use Rattle.pipe_types.specs.declared.step.Step.{Step}
 use Rattle.pipe_model.specs.History.{History}
@@ -9,6 +9,14 @@ use Rattle.pipe_laws.proofs.Allowed.{legal_before}
 use Rattle.pipe_laws.proofs.Lists.{weigh}
 use Rattle.work_laws.specs.Work.{how_many}
 use Rattle.work_laws.proofs.Keys.{Among, weigh_more, weigh_grows}
+
+pub at_most_one : (b : Bool) → as_number b ≤ 1
+at_most_one true = omega arith
+at_most_one false = omega arith
+
+pub no_less : (b : Bool) (n : ℕ) → n ≤ (if b then n + 1 else n)
+no_less true n = omega arith
+no_less false n = omega arith
 
 -- the step counts for one of the keys
 pub record Counted {K : Type 0} (f : History → K → ℕ) (keys : List K) (before : History) (step : Step) : Type 0 where

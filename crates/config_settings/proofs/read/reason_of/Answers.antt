@@ -1,4 +1,4 @@
-use Rattle.config_settings.proofs.Reasons.{reason_test}
+use Rattle.pipe_types.proofs.Reasons.{reason_test}
 use Rattle.config_settings.proofs.read.reason_of.Goals as goal
 
 pub returns : goal.returns

@@ -1,21 +1,16 @@
-use Rattle.std.proofs.Common.{◌≡◌, drop, ◌∙◌, arith, ap, sym, Some, Bool, []}
+use Rattle.std.proofs.Common.{◌≡◌, drop, ◌∙◌, arith, ap, sym, Bool, []}
 use Rattle.std.specs.Prelude.{find, option_map}
 use Rattle.std.proofs.lemmas.List.{drop_all}
 use Rattle.pipe_types.specs.declared.topology.StageSpec.{StageSpec}
-use Rattle.core_rows.proofs.Finding.{found_here, not_here}
+use Rattle.core_rows.proofs.Finding.{found_no, not_here}
 use Rattle.control_lines.proofs.Naming.{is_live_name}
 use Rattle.control_lines.proofs.orders.live_named.Goals as goal
 
 pub returns-then-is_live_named : goal.returns-then-is_live_named
 returns-then-is_live_named c =
     let core = c.args.core.now in
-    let test : StageSpec → Bool = is_live_name core.topology core.journal.steps c.args.word.now c.args.line.now in
-    let specs = c.as_slice-spec-items.result.now in
-    let i = c.loop-spec.spec-index in
-    let spec = c.spec-item.result in
-    let here = ap test (sym c.spec-item.is) ∙ (sym c.is_live_named.ensures ∙ c.if-is_live_named.true) in
-    let all = sym (found_here test specs i spec c.loop-spec-test.true here) ∙ (c.loop-spec.invariant ∙ ap (find test) c.as_slice-spec-items.ensures) in
-    ap (λ (o : StageSpec). Some o.no) c.spec-item.is ∙ ap (option_map (λ (s : StageSpec). s.no)) all
+    found_no (is_live_name core.topology core.journal.steps c.args.word.now c.args.line.now) c.as_slice-spec-items.result.now core.topology.stages c.loop-spec.spec-index c.spec-item.result
+    c.as_slice-spec-items.ensures c.loop-spec-test.true c.spec-item.is (sym c.is_live_named.ensures ∙ c.if-is_live_named.true) c.loop-spec.invariant
 
 pub loop-spec-preserved : goal.loop-spec-preserved
 loop-spec-preserved c =

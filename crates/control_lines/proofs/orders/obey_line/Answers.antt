@@ -4,24 +4,29 @@ use Rattle.pipe_model.specs.History.{controls}
 use Rattle.pipe_model.specs.Legal.{allows}
 use Rattle.core_tables.specs.declared.rows.Totals.{Totals}
 use Rattle.count_laws.proofs.Laws.{controls_law}
+use Rattle.control_lines.specs.declared.orders.Order.{Order}
 use Rattle.control_lines.specs.Orders.{step_for}
 use Rattle.control_lines.specs.Steps.{is_kill}
 use Rattle.control_lines.proofs.Naming.{reading_allowed}
+use Rattle.control_lines.proofs.orders.obey_line.Goals.{After-order_of}
 use Rattle.control_lines.proofs.orders.obey_line.Goals as goal
+
+-- the step of the order is legal
+ordered : (c : After-order_of) → allows c.args.core.now.topology c.args.core.now.journal.steps (step_for (controls c.args.core.now.journal.steps + 1) c.order_of.result) ≡ true
+ordered c =
+    let core = c.args.core.now in
+    subst (λ (step : Step). allows core.topology core.journal.steps step ≡ true) (sym (c.order_of.ensures (controls core.journal.steps + 1)))
+    (reading_allowed core.topology core.journal.steps c.args.line.now c.requires.stands.unowed c.requires.going c.requires.may)
 
 pub kill-requires-clause-legal : goal.kill-requires-clause-legal
 kill-requires-clause-legal c =
     let core = c.args.core.now in
-    let n = controls core.journal.steps + 1 in
-    subst (λ (step : Step). allows core.topology core.journal.steps step ≡ true) (sym (ap (step_for n) (sym c.in-Kill.is) ∙ c.order_of.ensures n))
-    (reading_allowed core.topology core.journal.steps c.args.line.now c.requires.stands.unowed c.requires.going c.requires.may)
+    subst (λ (o : Order). allows core.topology core.journal.steps (step_for (controls core.journal.steps + 1) o) ≡ true) c.in-Kill.is (ordered (goal.at.kill-requires-clause-legal c).After-order_of)
 
 pub begin-requires-clause-legal : goal.begin-requires-clause-legal
 begin-requires-clause-legal c =
     let core = c.args.core.now in
-    let n = controls core.journal.steps + 1 in
-    subst (λ (step : Step). allows core.topology core.journal.steps step ≡ true) (sym (ap (step_for n) (sym c.in-Drain.is) ∙ c.order_of.ensures n))
-    (reading_allowed core.topology core.journal.steps c.args.line.now c.requires.stands.unowed c.requires.going c.requires.may)
+    subst (λ (o : Order). allows core.topology core.journal.steps (step_for (controls core.journal.steps + 1) o) ≡ true) c.in-Drain.is (ordered (goal.at.begin-requires-clause-legal c).After-order_of)
 
 pub overflow_add-core : goal.overflow_add-core
 overflow_add-core c =

@@ -11,7 +11,7 @@ use Rattle.core_tables.specs.declared.rows.Totals.{Totals}
 use Rattle.core_tables.specs.Tables.{items_in, queue_at, contents_up}
 use Rattle.core_laws.specs.Enrolled.{queued}
 use Rattle.core_state.specs.declared.state.Core.{Core}
-use Rattle.core_state.proofs.Steps.{holds_after}
+use Rattle.core_state.proofs.Steps.{holds_after, log_kept}
 use Rattle.core_accepts.proofs.Bringing.{bringing, there, queue_room}
 use Rattle.core_state.proofs.Rooms.{room_after}
 use Rattle.core_accepts.proofs.Making.{accept_rest, accept_step, accept_rows, accept_queues}
@@ -152,6 +152,7 @@ returns-clause-holds c =
     (room_after core core-new (Accept s records) x c.requires.legal refl (accept_rest core s records c.push_spare.new.self.spare x c.requires.legal c.push_spare.ensures.spare)
     c.place_new.ensures.capacity c.mark_new.ensures.capacity c.produce_new.ensures.capacity c.content_new.ensures.capacity
     (λ t h. accept_queues core s spec q t x found (b.role spec found) h) refl)
+    (log_kept core (Accept s records) c.push_spare.new.self.acked x c.requires.legal refl refl c.push_spare.ensures.same_acked)
 
 pub push_spare-requires : goal.push_spare-requires
 push_spare-requires c = accept_step c.args.core.now c.args.stage c.args.records c.requires.holds c.requires.legal

@@ -22,7 +22,7 @@ returns-in_err-reserve-clause-stands c =
     let old = c.index_mut-queue.result.now in
     let within : s.0 < length core.waiting.items = omega (arith, c.requires.known, c.requires.stands.holds.fields.sized.waiting) in
     let was : slice_get core.waiting.items s.0 ≡ Some old = slice_get_read core.waiting.items (length core.waiting.items) s.0 old refl within c.index_mut-queue.ensures.value in
-    queue_stands core s old c.reserve.new.self core.journal c.requires.stands within was c.reserve.ensures.items (omega (arith, c.reserve.ensures.capacity, c.reserve.ensures.len)) refl (omega arith)
+    queue_stands core s old c.reserve.new.self core.journal c.requires.stands within was c.reserve.ensures.items (omega (arith, c.reserve.ensures.capacity, c.reserve.ensures.len)) refl (omega arith) refl
 
 pub returns-clause-stands : goal.returns-clause-stands
 returns-clause-stands c =
@@ -31,4 +31,4 @@ returns-clause-stands c =
     let old = c.index_mut-queue.result.now in
     let within : s.0 < length core.waiting.items = omega (arith, c.requires.known, c.requires.stands.holds.fields.sized.waiting) in
     let was : slice_get core.waiting.items s.0 ≡ Some old = slice_get_read core.waiting.items (length core.waiting.items) s.0 old refl within c.index_mut-queue.ensures.value in
-    queue_stands core s old c.reserve.new.self c.reserve-2.new.self c.requires.stands within was c.reserve.ensures.items (omega (arith, c.reserve.ensures.capacity, c.reserve.ensures.len)) c.reserve-2.ensures.same_steps c.reserve-2.ensures.spare
+    queue_stands core s old c.reserve.new.self c.reserve-2.new.self c.requires.stands within was c.reserve.ensures.items (omega (arith, c.reserve.ensures.capacity, c.reserve.ensures.len)) c.reserve-2.ensures.same_steps c.reserve-2.ensures.spare c.reserve-2.ensures.same_acked

@@ -1,4 +1,4 @@
-use Rattle.std.proofs.Common.{◌+◌, ap, sym, ◌∙◌, subst, ℕ}
+use Rattle.std.proofs.Common.{◌+◌, ap, sym, ◌∙◌, subst, ℕ, ◌≤◌}
 use Rattle.pipe_types.specs.declared.step.Step.TheVariants.{Fetch}
 use Rattle.pipe_model.specs.Legal.{allows}
 use Rattle.core_laws.specs.Due.{booked}
@@ -16,3 +16,7 @@ pub put_fetch-requires-clause-rows : goal.put_fetch-requires-clause-rows
 put_fetch-requires-clause-rows c =
     let new = c.make_room.new.core in
     subst (λ (k : ℕ). HaveRows (k + c.bound-n.result) new.places new.settled new.producers new.contents) (sym (λ i. booked (c.make_room.ensures.topology i) (c.make_room.ensures.unchanged i))) c.in_ok-make_room.ensures.rows
+
+pub put_fetch-requires-clause-log : goal.put_fetch-requires-clause-log
+put_fetch-requires-clause-log c =
+    subst (λ (k : ℕ). k + c.bound-n.result ≤ c.make_room.new.core.journal.acked.room) (sym (λ i. booked (c.make_room.ensures.topology i) (c.make_room.ensures.unchanged i))) c.in_ok-make_room.ensures.log

@@ -4,7 +4,7 @@ use Rattle.stage_laws.proofs.Numbering.{numbered_topology}
 use Rattle.core_state.specs.declared.state.Core.{Core}
 use Rattle.core_state.specs.Room.{Roomy}
 use Rattle.core_state.proofs.Rooms.{room_due}
-use Rattle.core_state.proofs.Steps.{holds_after, unowed_after}
+use Rattle.core_state.proofs.Steps.{holds_after, unowed_after, log_fetched}
 use Rattle.core_accepts.proofs.Fetching.{fetched_fields, fetch_within}
 use Rattle.core_accepts.proofs.Making.{fetch_rows, fetch_ends}
 use Rattle.core_accepts.proofs.fetches.put_fetch.Goals as goal
@@ -34,5 +34,6 @@ returns-clause-stands c =
       queues = x.room.queues;
       ends = λ t role out. fetch_ends core s n t x c.requires.legal role out;
     } in
-    let holds = holds_after core core-new (Fetch s n) x refl c.push_spare.ensures.written c.requires.legal fields room in
+    let holds = holds_after core core-new (Fetch s n) x refl c.push_spare.ensures.written c.requires.legal fields room
+    (log_fetched core s n c.push_spare.new.self.acked x c.requires.legal c.requires.log c.push_spare.ensures.same_acked) in
     record { holds = holds; unowed = unowed_after core-new core.topology (Fetch s n) core.journal.steps refl c.push_spare.ensures.written refl }

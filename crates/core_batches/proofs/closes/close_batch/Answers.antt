@@ -10,7 +10,7 @@ use Rattle.stage_laws.proofs.Bounds.{close_facts}
 use Rattle.core_laws.proofs.Lawful.{each_all}
 use Rattle.core_state.specs.declared.state.Core.{Core}
 use Rattle.core_state.proofs.Rooms.{room_due, room_after}
-use Rattle.core_state.proofs.Steps.{holds_after, unowed_after}
+use Rattle.core_state.proofs.Steps.{holds_after, unowed_after, log_kept}
 use Rattle.core_batches.specs.Closes.{batch_part}
 use Rattle.core_batches.proofs.Rooming.{close_queues}
 use Rattle.core_batches.proofs.Closing.{closed_fields, close_within, spec_here, parts_here, roomy_stands, closing_some, found_closing, found_there, closed_small, numbers_within, closed_same}
@@ -18,12 +18,12 @@ use Rattle.core_batches.proofs.closes.close_batch.Goals as goal
 
 pub returns-in_err-reserve-clause-stands : goal.returns-in_err-reserve-clause-stands
 returns-in_err-reserve-clause-stands c =
-    let core = c.args.core.now in roomy_stands core c.reserve.new.self core.batches core.waiting c.requires.stands c.reserve.ensures.same_steps refl (λ t. refl) refl c.reserve.ensures.spare (λ t. omega arith)
+    let core = c.args.core.now in roomy_stands core c.reserve.new.self core.batches core.waiting c.requires.stands c.reserve.ensures.same_steps refl (λ t. refl) refl c.reserve.ensures.spare (λ t. omega arith) c.reserve.ensures.same_acked
 
 pub returns-in_err-reserve-2-clause-stands : goal.returns-in_err-reserve-2-clause-stands
 returns-in_err-reserve-2-clause-stands c =
     roomy_stands c.args.core.now c.reserve.new.self c.reserve-2.new.self c.args.core.now.waiting c.requires.stands c.in_ok-reserve.ensures.same_steps c.reserve-2.ensures.items (λ t. refl) refl
-    c.in_ok-reserve.ensures.spare (λ t. omega arith)
+    c.in_ok-reserve.ensures.spare (λ t. omega arith) c.in_ok-reserve.ensures.same_acked
 
 pub make_room_for_one-requires : goal.make_room_for_one-requires
 make_room_for_one-requires c =
@@ -33,7 +33,7 @@ make_room_for_one-requires c =
 pub returns-in_err-make_room_for_one-clause-stands : goal.returns-in_err-make_room_for_one-clause-stands
 returns-in_err-make_room_for_one-clause-stands c =
     roomy_stands c.args.core.now c.reserve.new.self c.reserve-2.new.self c.make_room_for_one.new.waiting c.requires.stands c.in_ok-reserve.ensures.same_steps c.in_ok-reserve-2.ensures.items
-    c.in_err-make_room_for_one.ensures.same c.in_err-make_room_for_one.ensures.len c.in_ok-reserve.ensures.spare c.in_err-make_room_for_one.ensures.rooms
+    c.in_err-make_room_for_one.ensures.same c.in_err-make_room_for_one.ensures.len c.in_ok-reserve.ensures.spare c.in_err-make_room_for_one.ensures.rooms c.in_ok-reserve.ensures.same_acked
 
 pub closable_in-found-requires-clause-within : goal.closable_in-found-requires-clause-within
 closable_in-found-requires-clause-within c =
@@ -152,5 +152,6 @@ returns-clause-stands c =
     c.join_all.ensures.capacity refl refl refl
     (close_queues core s c.queue_batch.new.waiting.items x (close_facts core.topology before s first trigger c.requires.legal.legal).role
     (λ t other. omega (arith, c.queue_batch.ensures.rooms t other, c.in_ok-make_room_for_one.ensures.rooms t))) refl in
-    let holds = holds_after core core-new (Close s first trigger) x refl written c.requires.legal.legal fields room in
+    let holds = holds_after core core-new (Close s first trigger) x refl written c.requires.legal.legal fields room
+    (log_kept core (Close s first trigger) c.push_spare.new.self.acked x c.requires.legal.legal refl refl (c.push_spare.ensures.same_acked ∙ c.in_ok-reserve.ensures.same_acked)) in
     record { holds = holds; unowed = unowed_after core-new core.topology (Close s first trigger) before refl written refl }

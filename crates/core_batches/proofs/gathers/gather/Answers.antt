@@ -14,12 +14,12 @@ use Rattle.pipe_journal.specs.Readers.{reply_at}
 use Rattle.core_laws.specs.Contents.{passed_in}
 use Rattle.core_state.specs.declared.state.Core.{Core}
 use Rattle.core_state.proofs.Rooms.{room_due, room_after}
-use Rattle.core_state.proofs.Steps.{holds_after, unowed_after, still_stands}
+use Rattle.core_state.proofs.Steps.{holds_after, unowed_after, still_stands, log_kept}
 use Rattle.core_batches.proofs.Gathering.{gathered_fields, gather_within, some_first, refused_stands, fits_held, row_room, read_first, read_words}
 use Rattle.core_batches.proofs.gathers.gather.Goals as goal
 
 pub returns-in_err-reserve-clause-stands : goal.returns-in_err-reserve-clause-stands
-returns-in_err-reserve-clause-stands c = still_stands c.args.core.now c.reserve.new.self c.requires.stands c.reserve.ensures.same_steps c.reserve.ensures.spare
+returns-in_err-reserve-clause-stands c = still_stands c.args.core.now c.reserve.new.self c.requires.stands c.reserve.ensures.same_steps c.reserve.ensures.spare c.reserve.ensures.same_acked
 
 pub first_unit-unit-requires-clause-within : goal.first_unit-unit-requires-clause-within
 first_unit-unit-requires-clause-within c =
@@ -59,7 +59,7 @@ join_open-requires-clause-fits c =
 
 pub returns-in_err-join_open-clause-stands : goal.returns-in_err-join_open-clause-stands
 returns-in_err-join_open-clause-stands c =
-    refused_stands c.args.core.now c.reserve.new.self c.join_open.new.batchers c.requires.stands c.in_ok-reserve.ensures.same_steps c.in_err-join_open.ensures.unchanged c.in_err-join_open.ensures.len c.in_ok-reserve.ensures.spare
+    refused_stands c.args.core.now c.reserve.new.self c.join_open.new.batchers c.requires.stands c.in_ok-reserve.ensures.same_steps c.in_err-join_open.ensures.unchanged c.in_err-join_open.ensures.len c.in_ok-reserve.ensures.spare c.in_ok-reserve.ensures.same_acked
 
 pub drop_first-requires : goal.drop_first-requires
 drop_first-requires c =
@@ -115,5 +115,6 @@ returns-clause-stands c =
     let room = room_after core core-new (Gather s m) x known.allowed refl
     (room_due core (Gather s m ∷ core.journal.steps) c.reserve.new.self.spare c.push_spare.new.self.spare x c.in_ok-reserve.ensures.room c.push_spare.ensures.spare)
     c.place_gathered.ensures.capacity refl refl refl x.room.queues refl in
-    let holds = holds_after core core-new (Gather s m) x refl written known.allowed fields room in
+    let holds = holds_after core core-new (Gather s m) x refl written known.allowed fields room
+    (log_kept core (Gather s m) c.push_spare.new.self.acked x known.allowed refl refl (c.push_spare.ensures.same_acked ∙ c.in_ok-reserve.ensures.same_acked)) in
     record { holds = holds; unowed = unowed_after core-new core.topology (Gather s m) core.journal.steps refl written refl }

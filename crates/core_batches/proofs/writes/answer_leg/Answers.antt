@@ -2,12 +2,16 @@ use Rattle.std.proofs.Common.{◌≡◌, ◌∷◌, ◌∙◌, ◌<◌, length, 
 use Rattle.pipe_types.specs.declared.message.BatchEnd.{BatchEnd}
 use Rattle.pipe_types.specs.declared.message.BatchEnd.TheVariants.{Outcomes}
 use Rattle.pipe_types.specs.declared.step.Step.TheVariants.{Wrote}
+use Rattle.pipe_model.specs.History.{History}
+use Rattle.pipe_journal.specs.Recorded.{AckLog}
 use Rattle.core_state.specs.declared.state.Core.{Core}
-use Rattle.core_state.proofs.Steps.{holds_after, unowed_after}
+use Rattle.core_state.specs.Settles.{noted}
+use Rattle.core_state.proofs.Steps.{holds_after, unowed_after, log_noted}
 use Rattle.core_batches.specs.Writes.{leg_place}
 use Rattle.core_laws.specs.Columns.{sent_on}
 use Rattle.core_batches.proofs.Rooming.{wrote_due, wrote_size, wrote_room}
-use Rattle.core_batches.proofs.Written.{written_fields, answering, stage_found, take_there, written_room, leg_few, leg_is, leg_open, legs_there, outcomes_many, numbers_here, last_is, settled_is, legs_kept, places_by, marks_by}
+use Rattle.core_batches.proofs.Written.{IsHere, written_fields, answering, stage_found, take_there, written_room, leg_few, leg_is, leg_open, legs_there, outcomes_many, numbers_here, last_is, settled_is, legs_kept, places_by, marks_by, written_acks, numbers_least, numbers_fit, rows_by}
+use Rattle.core_batches.proofs.writes.answer_leg.Goals.{After-outcomes_in-outcomes}
 use Rattle.core_batches.proofs.writes.answer_leg.Goals as goal
 
 pub index-row-requires : goal.index-row-requires
@@ -41,51 +45,62 @@ outcomes_in-outcomes-requires-clause-room c =
     let h = answering core c.args.stage c.args.bytes c.args.end os row c.unwrap.result c.requires.stands c.requires.legal is c.index-row.ensures c.unwrap.ensures in
     wrote_size core c.args.stage c.args.bytes os c.unwrap.result.0 row.taken (leg_place c.unwrap.result.0 (sent_on core.topology core.journal.steps row.taken)) h.written.ms h.written.legs c.requires.stands.holds h.written.is)
 
+-- the leg that its answer ends is here
+answered : (c : After-outcomes_in-outcomes) → IsHere c.args.core.now c.args.stage c.args.bytes c.outcomes_in-outcomes.result c.unwrap.result.0 c.index-row.result.now.taken
+answered c =
+    answering c.args.core.now c.args.stage c.args.bytes c.args.end c.outcomes_in-outcomes.result c.index-row.result.now c.unwrap.result c.requires.stands c.requires.legal c.outcomes_in-outcomes.ensures.answered
+    c.index-row.ensures c.unwrap.ensures
+
 pub leg_of_batch-leg-requires-clause-there : goal.leg_of_batch-leg-requires-clause-there
 leg_of_batch-leg-requires-clause-there c =
-    let os = c.outcomes_in-outcomes.result in
-    let h = answering c.args.core.now c.args.stage c.args.bytes c.args.end os c.index-row.result.now c.unwrap.result c.requires.stands c.requires.legal c.outcomes_in-outcomes.ensures.answered c.index-row.ensures c.unwrap.ensures in
-    h.there
+    (answered (goal.at.leg_of_batch-leg-requires-clause-there c).After-outcomes_in-outcomes).there
 
 pub leg_of_batch-leg-requires-clause-few : goal.leg_of_batch-leg-requires-clause-few
 leg_of_batch-leg-requires-clause-few c =
-    let os = c.outcomes_in-outcomes.result in
-    let h = answering c.args.core.now c.args.stage c.args.bytes c.args.end os c.index-row.result.now c.unwrap.result c.requires.stands c.requires.legal c.outcomes_in-outcomes.ensures.answered c.index-row.ensures c.unwrap.ensures in
-    leg_few c.args.core.now c.args.stage c.args.bytes os c.unwrap.result.0 c.index-row.result.now.taken h
+    leg_few c.args.core.now c.args.stage c.args.bytes c.outcomes_in-outcomes.result c.unwrap.result.0 c.index-row.result.now.taken (answered (goal.at.leg_of_batch-leg-requires-clause-few c).After-outcomes_in-outcomes)
 
 pub settle_leg-settled-requires-clause-open_leg : goal.settle_leg-settled-requires-clause-open_leg
 settle_leg-settled-requires-clause-open_leg c =
-    let os = c.outcomes_in-outcomes.result in
-    let h = answering c.args.core.now c.args.stage c.args.bytes c.args.end os c.index-row.result.now c.unwrap.result c.requires.stands c.requires.legal c.outcomes_in-outcomes.ensures.answered c.index-row.ensures c.unwrap.ensures in
-    let same = leg_is c.args.core.now c.args.stage c.args.bytes os c.unwrap.result.0 c.index-row.result.now.taken h c.leg_of_batch-leg.result c.leg_of_batch-leg.ensures in
-    leg_open c.args.core.now c.args.stage c.args.bytes os c.unwrap.result.0 c.index-row.result.now.taken h c.leg_of_batch-leg.result same
+    let h = answered (goal.at.settle_leg-settled-requires-clause-open_leg c).After-outcomes_in-outcomes in
+    let same = leg_is c.args.core.now c.args.stage c.args.bytes c.outcomes_in-outcomes.result c.unwrap.result.0 c.index-row.result.now.taken h c.leg_of_batch-leg.result c.leg_of_batch-leg.ensures in
+    leg_open c.args.core.now c.args.stage c.args.bytes c.outcomes_in-outcomes.result c.unwrap.result.0 c.index-row.result.now.taken h c.leg_of_batch-leg.result same
 
 pub settle_leg-settled-requires-clause-there : goal.settle_leg-settled-requires-clause-there
 settle_leg-settled-requires-clause-there c =
-    let os = c.outcomes_in-outcomes.result in
-    let h = answering c.args.core.now c.args.stage c.args.bytes c.args.end os c.index-row.result.now c.unwrap.result c.requires.stands c.requires.legal c.outcomes_in-outcomes.ensures.answered c.index-row.ensures c.unwrap.ensures in
-    legs_there c.args.core.now c.args.stage c.args.bytes os c.unwrap.result.0 c.index-row.result.now.taken h
+    legs_there c.args.core.now c.args.stage c.args.bytes c.outcomes_in-outcomes.result c.unwrap.result.0 c.index-row.result.now.taken (answered (goal.at.settle_leg-settled-requires-clause-there c).After-outcomes_in-outcomes)
 
 pub settle_leg-settled-requires-clause-outcomes : goal.settle_leg-settled-requires-clause-outcomes
 settle_leg-settled-requires-clause-outcomes c =
-    let os = c.outcomes_in-outcomes.result in
-    let h = answering c.args.core.now c.args.stage c.args.bytes c.args.end os c.index-row.result.now c.unwrap.result c.requires.stands c.requires.legal c.outcomes_in-outcomes.ensures.answered c.index-row.ensures c.unwrap.ensures in
-    outcomes_many c.args.core.now c.args.stage c.args.bytes os c.unwrap.result.0 c.index-row.result.now.taken h
+    outcomes_many c.args.core.now c.args.stage c.args.bytes c.outcomes_in-outcomes.result c.unwrap.result.0 c.index-row.result.now.taken (answered (goal.at.settle_leg-settled-requires-clause-outcomes c).After-outcomes_in-outcomes)
 
 pub end_batch-requires-clause-there : goal.end_batch-requires-clause-there
 end_batch-requires-clause-there c =
+    (answered (goal.at.end_batch-requires-clause-there c).After-outcomes_in-outcomes).there
+
+pub end_batch-requires-clause-numbers : goal.end_batch-requires-clause-numbers
+end_batch-requires-clause-numbers c =
+    numbers_here c.args.core.now c.args.stage c.args.bytes c.outcomes_in-outcomes.result c.unwrap.result.0 c.index-row.result.now.taken (answered (goal.at.end_batch-requires-clause-numbers c).After-outcomes_in-outcomes) (sym c.requires.stands.holds.fields.sized.places)
+
+pub end_batch-requires-clause-marks : goal.end_batch-requires-clause-marks
+end_batch-requires-clause-marks c = c.requires.stands.holds.fields.sized.settled ∙ sym c.requires.stands.holds.fields.sized.places
+
+pub note_batch-requires-clause-there : goal.note_batch-requires-clause-there
+note_batch-requires-clause-there c =
     let os = c.outcomes_in-outcomes.result in
     let h = answering c.args.core.now c.args.stage c.args.bytes c.args.end os c.index-row.result.now c.unwrap.result c.requires.stands c.requires.legal c.outcomes_in-outcomes.ensures.answered c.index-row.ensures c.unwrap.ensures in
     h.there
 
-pub end_batch-requires-clause-numbers : goal.end_batch-requires-clause-numbers
-end_batch-requires-clause-numbers c =
+pub note_batch-requires-clause-least : goal.note_batch-requires-clause-least
+note_batch-requires-clause-least c =
     let os = c.outcomes_in-outcomes.result in
     let h = answering c.args.core.now c.args.stage c.args.bytes c.args.end os c.index-row.result.now c.unwrap.result c.requires.stands c.requires.legal c.outcomes_in-outcomes.ensures.answered c.index-row.ensures c.unwrap.ensures in
-    numbers_here c.args.core.now c.args.stage c.args.bytes os c.unwrap.result.0 c.index-row.result.now.taken h (sym c.requires.stands.holds.fields.sized.places)
+    numbers_least c.args.core.now c.args.stage c.args.bytes os c.unwrap.result.0 c.index-row.result.now.taken h (sym c.requires.stands.holds.fields.sized.places)
 
-pub end_batch-requires-clause-marks : goal.end_batch-requires-clause-marks
-end_batch-requires-clause-marks c = c.requires.stands.holds.fields.sized.settled ∙ sym c.requires.stands.holds.fields.sized.places
+pub note_batch-requires-clause-room : goal.note_batch-requires-clause-room
+note_batch-requires-clause-room c =
+    let os = c.outcomes_in-outcomes.result in
+    let h = answering c.args.core.now c.args.stage c.args.bytes c.args.end os c.index-row.result.now c.unwrap.result c.requires.stands c.requires.legal c.outcomes_in-outcomes.ensures.answered c.index-row.ensures c.unwrap.ensures in
+    numbers_fit c.args.core.now c.args.stage c.args.bytes os c.unwrap.result.0 c.index-row.result.now.taken h c.requires.stands.holds
 
 pub come_home-requires : goal.come_home-requires
 come_home-requires c =
@@ -101,12 +116,15 @@ count_handled-requires c =
     let os = c.outcomes_in-outcomes.result in
     let u = c.unwrap.result.0 in
     let b = c.index-row.result.now.taken in
-    let h = answering core c.args.stage c.args.bytes c.args.end os c.index-row.result.now c.unwrap.result c.requires.stands c.requires.legal c.outcomes_in-outcomes.ensures.answered c.index-row.ensures c.unwrap.ensures in
+    let h = answered (goal.at.count_handled-requires c).After-outcomes_in-outcomes in
     written_room core core.topology core.journal.steps c.args.stage c.args.bytes os u b (leg_place u (sent_on core.topology core.journal.steps b)) h.written.ms h.written.legs c.requires.stands.holds.fields h.written.is
 
 pub push_spare-requires : goal.push_spare-requires
 push_spare-requires c =
-    omega (arith, wrote_due c.args.core.now c.args.stage c.args.bytes c.args.end c.requires.stands.holds c.requires.legal, c.requires.stands.holds.room.steps)
+    omega (arith, wrote_due c.args.core.now c.args.stage c.args.bytes c.args.end c.requires.stands.holds c.requires.legal, c.requires.stands.holds.room.steps, c.note_batch.ensures.same_spare)
+
+pub returns-clause-appended : goal.returns-clause-appended
+returns-clause-appended c = c.push_spare.ensures.written ∙ ap (λ (h : History). Wrote c.args.stage c.args.bytes c.args.end ∷ h) c.note_batch.ensures.same_steps
 
 pub returns-clause-stands : goal.returns-clause-stands
 returns-clause-stands c =
@@ -115,10 +133,9 @@ returns-clause-stands c =
     let bytes = c.args.bytes in
     let os = c.outcomes_in-outcomes.result in
     let stands = c.requires.stands in
-    let row = c.index-row.result.now in
     let u = c.unwrap.result.0 in
-    let b = row.taken in
-    let h = answering core s bytes c.args.end os row c.unwrap.result stands c.requires.legal c.outcomes_in-outcomes.ensures.answered c.index-row.ensures c.unwrap.ensures in
+    let b = c.index-row.result.now.taken in
+    let h = answered (goal.at.returns-clause-stands c).After-outcomes_in-outcomes in
     let leg = c.leg_of_batch-leg.result in
     let same = leg_is core s bytes os u b h leg c.leg_of_batch-leg.ensures in
     let settled = c.settle_leg-settled.result in
@@ -134,7 +151,7 @@ returns-clause-stands c =
       ends = c.outcomes_in-outcomes.new.ends;
       totals = record core.totals { quiet = 0 };
     } in
-    let written = c.push_spare.ensures.written ∙ ap (λ (e : BatchEnd). Wrote s bytes e ∷ core.journal.steps) c.outcomes_in-outcomes.ensures.answered in
+    let written = c.push_spare.ensures.written ∙ ap (λ (h : History). Wrote s bytes c.args.end ∷ h) c.note_batch.ensures.same_steps ∙ ap (λ (e : BatchEnd). Wrote s bytes e ∷ core.journal.steps) c.outcomes_in-outcomes.ensures.answered in
     let fields =
     written_fields core core.topology core.journal.steps s bytes os u b i h.written.ms h.written.legs settled c.push_spare.new.self c.come_home.new.posts c.end_batch.new.places c.end_batch.new.marks c.count_handled.new.subs
     c.settle_leg-settled.new.self c.outcomes_in-outcomes.new.ends stands.holds.sound stands.holds.fields h.written.is (last_is core s bytes os u b h leg settled same c.settle_leg-settled.ensures.last_leg)
@@ -142,7 +159,11 @@ returns-clause-stands c =
     c.come_home.ensures.posts c.come_home.ensures.len (places_by core s bytes os u b h settled core.places.items c.end_batch.new.places.items c.end_batch.ensures.places) c.end_batch.ensures.places_len
     (marks_by core s bytes os u b h settled c.len-mark.result core.settled.items c.end_batch.new.marks.items c.len-mark.ensures c.end_batch.ensures.marks) c.end_batch.ensures.marks_len c.count_handled.ensures c.outcomes_in-outcomes.ensures.len in
     let room = wrote_room core core-new s bytes (Outcomes os) stands.holds h.written.is.allowed
-    (omega (arith, wrote_due core s bytes (Outcomes os) stands.holds h.written.is.allowed, stands.holds.room.steps, c.push_spare.ensures.spare))
+    (omega (arith, wrote_due core s bytes (Outcomes os) stands.holds h.written.is.allowed, stands.holds.room.steps, c.push_spare.ensures.spare, c.note_batch.ensures.same_spare))
     c.end_batch.ensures.places_capacity c.end_batch.ensures.marks_capacity refl refl refl refl c.outcomes_in-outcomes.ensures.others in
-    let holds = holds_after core core-new (Wrote s bytes (Outcomes os)) stands.holds refl written h.written.is.allowed fields room in
+    let holds = holds_after core core-new (Wrote s bytes (Outcomes os)) stands.holds refl written h.written.is.allowed fields room
+    (log_noted core core-new (Wrote s bytes (Outcomes os)) h.written.ms c.push_spare.new.self.acked c.deref.result.now c.deref-2.result.now c.len-mark.result h.written.ms
+    stands.holds h.written.is.allowed refl (written_acks core s bytes os u b h) fields c.deref.ensures.value c.deref-2.ensures.value c.len-mark.ensures refl
+    (ap (λ (a : AckLog). a.rows) c.push_spare.ensures.same_acked ∙ rows_by core s bytes os u b h (noted c.deref.result.now c.deref-2.result.now c.len-mark.result) c.note_batch.new.journal.acked.rows c.note_batch.ensures.noted)
+    (ap (λ (a : AckLog). a.room) c.push_spare.ensures.same_acked ∙ c.note_batch.ensures.same_room)) in
     record { holds = holds; unowed = unowed_after core-new core.topology (Wrote s bytes (Outcomes os)) core.journal.steps refl written refl }

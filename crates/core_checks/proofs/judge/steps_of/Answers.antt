@@ -1,5 +1,5 @@
 use Rattle.std.proofs.Common.{◌≡◌, ◌∙◌, [], ◌∷◌, ◌++◌, Some, ap, sym, rules, reverse}
-use Rattle.core_checks.proofs.Judged.{take_next}
+use Rattle.pipe_laws.proofs.Lists.{take_next}
 use Rattle.core_checks.proofs.judge.steps_of.Goals as goal
 
 pub loop-at-preserved : goal.loop-at-preserved

@@ -11,7 +11,7 @@ message_of-requires-clause-accepted c =
     (own_accepted c.args.core.now.topology c.args.core.now.journal.steps c.args.stage c.args.no c.args.slot c.requires.legal c.requires.again).1
 
 pub returns-in_err-reserve-clause-stands : goal.returns-in_err-reserve-clause-stands
-returns-in_err-reserve-clause-stands c = still_stands c.args.core.now c.reserve.new.self c.requires.stands c.reserve.ensures.same_steps c.reserve.ensures.spare
+returns-in_err-reserve-clause-stands c = still_stands c.args.core.now c.reserve.new.self c.requires.stands c.reserve.ensures.same_steps c.reserve.ensures.spare c.reserve.ensures.same_acked
 
 pub start_again-requires-clause-holds : goal.start_again-requires-clause-holds
-start_again-requires-clause-holds c = (still_stands c.args.core.now c.reserve.new.self c.requires.stands c.reserve.ensures.same_steps c.reserve.ensures.spare).holds
+start_again-requires-clause-holds c = (still_stands c.args.core.now c.reserve.new.self c.requires.stands c.reserve.ensures.same_steps c.reserve.ensures.spare c.reserve.ensures.same_acked).holds

@@ -1,4 +1,4 @@
-use Rattle.std.proofs.Common.{◌≡◌, ◌∙◌, ℕ, suc, ◌+◌, ◌≤◌, length, ap, refl, sym, subst, arith, Some, Option}
+use Rattle.std.proofs.Common.{◌≡◌, ◌∙◌, ℕ, suc, ◌+◌, ◌≤◌, [], ◌∷◌, length, ap, refl, sym, subst, arith, Some, Option}
 use Rattle.std.specs.Prelude.{slice_get, if◌then◌else◌, ◌==◌, ◌&&◌, IfSome}
 use Rattle.std.proofs.lemmas.Option.{slice_get_read}
 use Rattle.pipe_types.specs.declared.numbers.StageNo.{StageNo}
@@ -8,7 +8,8 @@ use Rattle.pipe_types.specs.Numbers.{message_no}
 use Rattle.pipe_model.specs.Flow.{child_place}
 use Rattle.pipe_laws.proofs.Allowed.{child_end_facts}
 use Rattle.pipe_model.specs.Posts.{crashes}
-use Rattle.pipe_model.specs.History.{incarnation}
+use Rattle.pipe_model.specs.History.{History, incarnation}
+use Rattle.pipe_journal.specs.Recorded.{AckLog}
 use Rattle.stage_subs.specs.Subs.{row_of, IsChanged}
 use Rattle.consumer_sup.specs.declared.Child.{Child as ChildRow}
 use Rattle.core_tables.specs.declared.rows.StageRow.{StageRow}
@@ -16,11 +17,11 @@ use Rattle.core_laws.specs.Columns.{came, stage_row}
 use Rattle.core_state.specs.declared.state.Core.{Core}
 use Rattle.core_state.specs.Stands.{child_at}
 use Rattle.core_state.proofs.Rooms.{room_after}
-use Rattle.core_state.proofs.Steps.{holds_after}
+use Rattle.core_state.proofs.Steps.{holds_after, log_fits, log_noted}
 use Rattle.core_takes.specs.Replies.{handled_on}
 use Rattle.core_children.specs.Slots.{left_in}
 use Rattle.core_children.proofs.Rooming.{end_due, ended_queues}
-use Rattle.core_children.proofs.Ended.{slot_of, Ended, ended_fields, row_room, child_there, ends_read, came_read}
+use Rattle.core_children.proofs.Ended.{slot_of, end_acks, Ended, ended_fields, row_room, child_there, ends_read, came_read}
 use Rattle.core_children.proofs.endings.end_run.Goals as goal
 
 pub index-requires : goal.index-requires
@@ -68,6 +69,18 @@ pub put_mark-requires-clause-within : goal.put_mark-requires-clause-within
 put_mark-requires-clause-within c =
     omega (arith, (ends_read c.args.core.now c.args.stage c.args.slot c.args.reply c.number_in-no.result c.end_in-again.result c.has_crashed-crashed.result c.deref.result.now c.requires.holds c.requires.legal c.deref.ensures.value c.number_in-no.ensures c.has_crashed-crashed.ensures c.end_in-again.ensures.again).most, c.requires.holds.fields.sized.settled)
 
+pub note_one-requires-clause-least : goal.note_one-requires-clause-least
+note_one-requires-clause-least c =
+    (ends_read c.args.core.now c.args.stage c.args.slot c.args.reply c.number_in-no.result c.end_in-again.result c.has_crashed-crashed.result c.deref.result.now c.requires.holds c.requires.legal c.deref.ensures.value c.number_in-no.ensures c.has_crashed-crashed.ensures c.end_in-again.ensures.again).least
+
+pub note_one-requires-clause-room : goal.note_one-requires-clause-room
+note_one-requires-clause-room c =
+    let core = c.args.core.now in
+    let k = ends_read core c.args.stage c.args.slot c.args.reply c.number_in-no.result c.end_in-again.result c.has_crashed-crashed.result c.deref.result.now c.requires.holds c.requires.legal c.deref.ensures.value c.number_in-no.ensures c.has_crashed-crashed.ensures c.end_in-again.ensures.again in
+    let fits = log_fits core (ChildEnd c.args.stage c.args.slot c.args.reply) (c.number_in-no.result ∷ []) c.requires.holds
+    (end_acks core.topology core.journal.steps c.args.stage c.args.slot c.args.reply c.number_in-no.result c.end_in-again.result k) in
+    omega (arith, fits)
+
 pub count_handled-requires : goal.count_handled-requires
 count_handled-requires c =
     let core = c.args.core.now in
@@ -86,7 +99,10 @@ come_home-requires c =
 
 pub push_spare-requires : goal.push_spare-requires
 push_spare-requires c =
-    omega (arith, end_due c.args.core.now c.args.stage c.args.slot c.args.reply c.requires.holds c.requires.legal, c.requires.holds.room.steps)
+    omega (arith, end_due c.args.core.now c.args.stage c.args.slot c.args.reply c.requires.holds c.requires.legal, c.requires.holds.room.steps, c.note_one.ensures.same_spare)
+
+pub returns-clause-appended : goal.returns-clause-appended
+returns-clause-appended c = c.push_spare.ensures.written ∙ ap (λ (h : History). ChildEnd c.args.stage c.args.slot c.args.reply ∷ h) c.note_one.ensures.same_steps
 
 pub returns-clause-holds : goal.returns-clause-holds
 returns-clause-holds c =
@@ -121,7 +137,11 @@ returns-clause-holds c =
     } in
     let fields = ended_fields core s c.args.slot c.args.reply c.number_in-no.result c.end_in-again.result c.push_spare.new.self c.come_home.new.posts c.count_handled.new.subs c.leave_chunk.new.chunks c.end_in-again.new.children c.put_place.new.places c.put_mark.new.settled
     x.sound x.fields k new in
-    let room = room_after core core-new (ChildEnd s c.args.slot c.args.reply) x c.requires.legal refl (omega (arith, end_due core s c.args.slot c.args.reply x c.requires.legal, x.room.steps, c.push_spare.ensures.spare))
+    let room = room_after core core-new (ChildEnd s c.args.slot c.args.reply) x c.requires.legal refl (omega (arith, end_due core s c.args.slot c.args.reply x c.requires.legal, x.room.steps, c.push_spare.ensures.spare, c.note_one.ensures.same_spare))
     c.put_place.ensures.capacity c.put_mark.ensures.capacity refl refl
     (ended_queues core s c.number_in-no.result c.end_in-again.result c.leave_chunk.new.chunks.items x (child_end_facts core.topology core.journal.steps s c.args.slot c.args.reply c.requires.legal).role c.leave_chunk.ensures.left) refl in
-    holds_after core core-new (ChildEnd s c.args.slot c.args.reply) x refl c.push_spare.ensures.written c.requires.legal fields room
+    let written = c.push_spare.ensures.written ∙ ap (λ (h : History). ChildEnd s c.args.slot c.args.reply ∷ h) c.note_one.ensures.same_steps in
+    holds_after core core-new (ChildEnd s c.args.slot c.args.reply) x refl written c.requires.legal fields room
+    (log_noted core core-new (ChildEnd s c.args.slot c.args.reply) (c.number_in-no.result ∷ []) c.push_spare.new.self.acked c.deref-2.result.now c.deref-3.result.now c.len-entry.result (c.number_in-no.result ∷ [])
+    x c.requires.legal refl (end_acks core.topology core.journal.steps s c.args.slot c.args.reply c.number_in-no.result c.end_in-again.result k) fields c.deref-2.ensures.value c.deref-3.ensures.value c.len-entry.ensures refl
+    (ap (λ (a : AckLog). a.rows) c.push_spare.ensures.same_acked ∙ c.note_one.ensures.noted) (ap (λ (a : AckLog). a.room) c.push_spare.ensures.same_acked ∙ c.note_one.ensures.same_room))

@@ -20,10 +20,10 @@ is_taken-requires c =
     omega (arith, low, ap length c.deref.ensures.value)
 
 pub returns-in_err-reserve-clause-stands : goal.returns-in_err-reserve-clause-stands
-returns-in_err-reserve-clause-stands c = still_stands c.args.core.now c.reserve.new.self c.requires.stands c.reserve.ensures.same_steps c.reserve.ensures.spare
+returns-in_err-reserve-clause-stands c = still_stands c.args.core.now c.reserve.new.self c.requires.stands c.reserve.ensures.same_steps c.reserve.ensures.spare c.reserve.ensures.same_acked
 
 pub start_again-requires-clause-holds : goal.start_again-requires-clause-holds
-start_again-requires-clause-holds c = (still_stands c.args.core.now c.reserve.new.self c.requires.stands c.reserve.ensures.same_steps c.reserve.ensures.spare).holds
+start_again-requires-clause-holds c = (still_stands c.args.core.now c.reserve.new.self c.requires.stands c.reserve.ensures.same_steps c.reserve.ensures.spare c.reserve.ensures.same_acked).holds
 
 pub start_again-requires-clause-again : goal.start_again-requires-clause-again
 start_again-requires-clause-again c =

@@ -5,7 +5,7 @@ use Rattle.core_takes.specs.Takes.{out_of}
 use Rattle.pipe_types.specs.declared.step.Step.TheVariants.{Child}
 use Rattle.core_state.specs.declared.state.Core.{Core}
 use Rattle.core_state.proofs.Rooms.{room_due, room_beside}
-use Rattle.core_state.proofs.Steps.{holds_after}
+use Rattle.core_state.proofs.Steps.{holds_after, log_kept}
 use Rattle.core_children.proofs.Starting.{again, again_started, started_fields}
 use Rattle.core_children.proofs.starts.start_again.Goals as goal
 
@@ -36,3 +36,4 @@ returns-clause-holds c =
     let room = room_beside core new (Child s c.args.no c.args.slot) x c.requires.legal refl (room_due core (Child s c.args.no c.args.slot ∷ core.journal.steps) core.journal.spare c.push_spare.new.self.spare x c.requires.spare c.push_spare.ensures.spare)
     refl refl refl refl refl refl refl in
     holds_after core new (Child s c.args.no c.args.slot) x refl c.push_spare.ensures.written c.requires.legal fields room
+    (log_kept core (Child s c.args.no c.args.slot) c.push_spare.new.self.acked x c.requires.legal refl refl c.push_spare.ensures.same_acked)

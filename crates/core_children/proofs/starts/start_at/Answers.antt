@@ -8,7 +8,7 @@ use Rattle.core_tables.specs.Tables.{list_at, queue_at}
 use Rattle.core_takes.specs.Takes.{out_of}
 use Rattle.core_state.specs.declared.state.Core.{Core}
 use Rattle.core_state.proofs.Rooms.{room_due, room_after}
-use Rattle.core_state.proofs.Steps.{holds_after}
+use Rattle.core_state.proofs.Steps.{holds_after, log_kept}
 use Rattle.core_children.proofs.Rooming.{child_queues}
 use Rattle.core_children.proofs.Starting.{started_fields}
 use Rattle.core_children.proofs.Fresh.{fresh_started, fresh_child, one_within}
@@ -53,3 +53,4 @@ returns-clause-holds c =
     (child_queues core s c.start_chunk.new.chunks.items (λ t. list_at core.chunks.items t ++ take 1 (units_on c.args.sub (queue_at core.inboxes.items t))) x (child_facts core.topology core.journal.steps s c.args.no slot allowed).role
     c.start_chunk.ensures.chunks) refl in
     holds_after core new (Child s c.args.no slot) x refl c.push_spare.ensures.written allowed fields room
+    (log_kept core (Child s c.args.no slot) c.push_spare.new.self.acked x allowed refl refl c.push_spare.ensures.same_acked)

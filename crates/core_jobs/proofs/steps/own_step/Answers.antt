@@ -2,38 +2,43 @@ use Rattle.std.proofs.Common.{◌≡◌, ◌∷◌, ℕ, true, ap, sym, ◌∙�
 use Rattle.pipe_types.specs.declared.numbers.MsgNo.{MsgNo}
 use Rattle.pipe_types.specs.declared.step.Step.{Step}
 use Rattle.pipe_types.specs.declared.step.Step.TheVariants.{Ask, Gather}
+use Rattle.pipe_model.specs.Ledger.{due}
 use Rattle.pipe_model.specs.Legal.{allows}
 use Rattle.core_jobs.proofs.Owned.{ask_due, gather_first}
+use Rattle.core_jobs.proofs.steps.own_step.Goals.{In-Ask, In-Gather}
 use Rattle.core_jobs.proofs.steps.own_step.Goals as goal
+
+-- the step is legal as it was found
+ask_legal : (c : In-Ask) → allows c.args.core.now.topology c.args.core.now.journal.steps (Ask c.in-Ask.sub c.in-Ask.n) ≡ true
+ask_legal c = subst (λ (step : Step). allows c.args.core.now.topology c.args.core.now.journal.steps step ≡ true) c.in-Ask.is c.requires.legal
+
+gather_legal : (c : In-Gather) → allows c.args.core.now.topology c.args.core.now.journal.steps (Gather c.in-Gather.stage c.in-Gather.no) ≡ true
+gather_legal c = subst (λ (step : Step). allows c.args.core.now.topology c.args.core.now.journal.steps step ≡ true) c.in-Gather.is c.requires.legal
+
+-- the ask and the gather that come are those that were found
+ask_found : (c : In-Ask) → c.in-Ask.n ≡ due c.args.core.now.topology c.args.core.now.journal.steps c.in-Ask.sub
+ask_found c = ask_due c.args.core.now.topology c.args.core.now.journal.steps c.in-Ask.sub c.in-Ask.n (ask_legal c)
 
 pub ask-requires-clause-legal : goal.ask-requires-clause-legal
 ask-requires-clause-legal c =
-    let core = c.args.core.now in
-    let a = c.in-Ask in
-    let h = subst (λ (step : Step). allows core.topology core.journal.steps step ≡ true) a.is c.requires.legal in
-    subst (λ (k : ℕ). allows core.topology core.journal.steps (Ask a.sub k) ≡ true) (ask_due core.topology core.journal.steps a.sub a.n h) h
+    let asks = (goal.at.ask-requires-clause-legal c).In-Ask in
+    subst (λ (k : ℕ). allows c.args.core.now.topology c.args.core.now.journal.steps (Ask c.in-Ask.sub k) ≡ true) (ask_found asks) (ask_legal asks)
 
 pub gather-requires-clause-legal : goal.gather-requires-clause-legal
 gather-requires-clause-legal c =
     let core = c.args.core.now in
-    let a = c.in-Gather in
-    let h = subst (λ (step : Step). allows core.topology core.journal.steps step ≡ true) a.is c.requires.legal in
-    subst (λ (m : MsgNo). allows core.topology core.journal.steps (Gather a.stage m) ≡ true) (gather_first core.topology core.journal.steps a.stage a.no h) h
+    let legal = gather_legal (goal.at.gather-requires-clause-legal c).In-Gather in
+    subst (λ (m : MsgNo). allows core.topology core.journal.steps (Gather c.in-Gather.stage m) ≡ true) (gather_first core.topology core.journal.steps c.in-Gather.stage c.in-Gather.no legal) legal
 
 pub returns-in_ok-ask-in-Ask-clause-appended : goal.returns-in_ok-ask-in-Ask-clause-appended
 returns-in_ok-ask-in-Ask-clause-appended c =
-    let core = c.args.core.now in
-    let a = c.in-Ask in
-    let h = subst (λ (step : Step). allows core.topology core.journal.steps step ≡ true) a.is c.requires.legal in
     c.in_ok-ask-in-Ask.ensures.appended
-    ∙ (ap (λ (k : ℕ). Ask a.sub k ∷ core.journal.steps) (c.in_ok-ask-in-Ask.ensures.size ∙ sym (ask_due core.topology core.journal.steps a.sub a.n h))
-    ∙ ap (λ (step : Step). step ∷ core.journal.steps) (sym a.is))
+    ∙ (ap (λ (k : ℕ). Ask c.in-Ask.sub k ∷ c.args.core.now.journal.steps) (c.in_ok-ask-in-Ask.ensures.size ∙ sym (ask_found (goal.at.returns-in_ok-ask-in-Ask-clause-appended c).In-Ask))
+    ∙ ap (λ (step : Step). step ∷ c.args.core.now.journal.steps) (sym c.in-Ask.is))
 
 pub returns-in_ok-gather-in-Gather-clause-appended : goal.returns-in_ok-gather-in-Gather-clause-appended
 returns-in_ok-gather-in-Gather-clause-appended c =
     let core = c.args.core.now in
-    let a = c.in-Gather in
-    let h = subst (λ (step : Step). allows core.topology core.journal.steps step ≡ true) a.is c.requires.legal in
+    let first = gather_first core.topology core.journal.steps c.in-Gather.stage c.in-Gather.no (gather_legal (goal.at.returns-in_ok-gather-in-Gather-clause-appended c).In-Gather) in
     c.in_ok-gather-in-Gather.ensures.appended
-    ∙ (ap (λ (m : MsgNo). Gather a.stage m ∷ core.journal.steps) (c.in_ok-gather-in-Gather.ensures.first ∙ sym (gather_first core.topology core.journal.steps a.stage a.no h))
-    ∙ ap (λ (step : Step). step ∷ core.journal.steps) (sym a.is))
+    ∙ (ap (λ (m : MsgNo). Gather c.in-Gather.stage m ∷ core.journal.steps) (c.in_ok-gather-in-Gather.ensures.first ∙ sym first) ∙ ap (λ (step : Step). step ∷ core.journal.steps) (sym c.in-Gather.is))

@@ -1,10 +1,10 @@
 use Rattle.std.proofs.Common.{refl, arith}
 use Rattle.pipe_types.specs.declared.step.Step.TheVariants.{Done}
 use Rattle.core_state.specs.declared.state.Core.{Core}
-use Rattle.core_state.proofs.Steps.{holds_after}
+use Rattle.core_state.proofs.Steps.{holds_after, log_still}
 use Rattle.core_state.proofs.Rooms.{room_beside}
 use Rattle.core_lates.proofs.Rooms.{done_due, step_room, rest_room}
-use Rattle.core_lates.proofs.Crashing.{done_within, crashed_fields, crash_owes}
+use Rattle.core_lates.proofs.Crashing.{done_within, crashed_fields, crash_stays, crash_owes}
 use Rattle.core_lates.proofs.crashes.answer_crash.Goals as goal
 
 pub come_home-requires : goal.come_home-requires
@@ -27,6 +27,7 @@ returns-clause-holds c =
     holds_after core core-new (Done c.args.stage c.args.replies) x refl c.push_spare.ensures.written c.requires.legal
     (crashed_fields core core.topology core.journal.steps c.args.stage c.args.replies c.push_spare.new.self c.come_home.new.posts x.fields x.sound x.legal c.requires.legal c.requires.crash c.come_home.ensures.posts c.come_home.ensures.len)
     (room_beside core core-new (Done c.args.stage c.args.replies) x c.requires.legal refl (rest_room core (Done c.args.stage c.args.replies) c.push_spare.new.self.spare x (done_due core c.args.stage c.args.replies x c.requires.legal) c.push_spare.ensures.spare) refl refl refl refl refl refl refl)
+    (log_still core (Done c.args.stage c.args.replies) c.push_spare.new.self.acked x c.requires.legal (crash_stays core.topology core.journal.steps c.args.stage c.args.replies c.requires.crash).places refl c.push_spare.ensures.same_acked)
 
 pub push_spare-requires : goal.push_spare-requires
 push_spare-requires c =

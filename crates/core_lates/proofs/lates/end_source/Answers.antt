@@ -31,7 +31,7 @@ returns-clause-stands c =
     let core-new : Core = record core { journal = c.push_spare.new.self; stages = c.note_end.new.rows; posts = c.come_home.new.posts; totals = record core.totals { quiet = 0 } } in
     late_stands core core-new s slot c.args.incarnation (Source c.args.how) x refl c.push_spare.ensures.written c.requires.legal
     (source_fields core core.topology core.journal.steps s slot c.args.incarnation c.args.how c.push_spare.new.self c.note_end.new.rows c.come_home.new.posts x.fields x.sound x.legal known c.note_end.ensures.rows c.note_end.ensures.len c.come_home.ensures.posts c.come_home.ensures.len)
-    (room_beside core core-new (Late s slot c.args.incarnation (Source c.args.how)) x c.requires.legal refl (rest_room core (Late s slot c.args.incarnation (Source c.args.how)) c.push_spare.new.self.spare x (late_due core s slot c.args.incarnation (Source c.args.how) x c.requires.legal) c.push_spare.ensures.spare) refl refl refl refl refl refl refl)
+    (room_beside core core-new (Late s slot c.args.incarnation (Source c.args.how)) x c.requires.legal refl (rest_room core (Late s slot c.args.incarnation (Source c.args.how)) c.push_spare.new.self.spare x (late_due core s slot c.args.incarnation (Source c.args.how) x c.requires.legal) c.push_spare.ensures.spare) refl refl refl refl refl refl refl) c.push_spare.ensures.same_acked
 
 pub push_spare-requires : goal.push_spare-requires
 push_spare-requires c =

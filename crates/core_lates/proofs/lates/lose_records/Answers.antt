@@ -117,7 +117,7 @@ returns-clause-stands c =
     (lost_fields core core.topology before s slot i why records c.push_spare.new.self c.come_home.new.posts c.lose_new.new.places c.mark_new.new.settled c.produce_new.new.producers c.content_new.new.contents totals-new
     x.fields x.sound x.legal b dead new counted)
     (room_after core core-new (Late s slot i (Records records)) x c.requires.legal refl (rest_room core (Late s slot i (Records records)) c.push_spare.new.self.spare x (late_due core s slot i (Records records) x c.requires.legal) c.push_spare.ensures.spare)
-    c.lose_new.ensures.capacity c.mark_new.ensures.capacity c.produce_new.ensures.capacity c.content_new.ensures.capacity x.room.queues refl)
+    c.lose_new.ensures.capacity c.mark_new.ensures.capacity c.produce_new.ensures.capacity c.content_new.ensures.capacity x.room.queues refl) c.push_spare.ensures.same_acked
 
 pub push_spare-requires : goal.push_spare-requires
 push_spare-requires c =

@@ -23,7 +23,7 @@ returns-clause-stands c =
     let core-new : Core = record core { journal = c.push_spare.new.self; posts = c.come_home.new.posts; totals = record core.totals { quiet = 0 } } in
     late_stands core core-new s slot c.args.incarnation c.args.answer x refl c.push_spare.ensures.written c.requires.legal
     (plain_fields core core.topology core.journal.steps s slot c.args.incarnation c.args.answer c.push_spare.new.self c.come_home.new.posts x.fields x.sound x.legal known c.requires.plain c.come_home.ensures.posts c.come_home.ensures.len)
-    (room_beside core core-new (Late s slot c.args.incarnation c.args.answer) x c.requires.legal refl (rest_room core (Late s slot c.args.incarnation c.args.answer) c.push_spare.new.self.spare x (late_due core s slot c.args.incarnation c.args.answer x c.requires.legal) c.push_spare.ensures.spare) refl refl refl refl refl refl refl)
+    (room_beside core core-new (Late s slot c.args.incarnation c.args.answer) x c.requires.legal refl (rest_room core (Late s slot c.args.incarnation c.args.answer) c.push_spare.new.self.spare x (late_due core s slot c.args.incarnation c.args.answer x c.requires.legal) c.push_spare.ensures.spare) refl refl refl refl refl refl refl) c.push_spare.ensures.same_acked
 
 pub push_spare-requires : goal.push_spare-requires
 push_spare-requires c =

@@ -7,8 +7,7 @@ use Rattle.core_moves.proofs.dispatches.sends_by_demand.Goals as goal
 pub returns-then-is_waiting_empty : goal.returns-then-is_waiting_empty
 returns-then-is_waiting_empty c =
     let core = c.args.core.now in
-    let s = c.args.spec.now.no in
-    none_wait core.topology core.journal.steps s ByDemand (rooms_by core.topology core.journal.steps (view_of core.topology core.journal.steps) s) (sym c.is_waiting_empty.ensures ∙ c.if-is_waiting_empty.true)
+    none_wait core.topology core.journal.steps c.args.spec.now.no ByDemand (rooms_by core.topology core.journal.steps (view_of core.topology core.journal.steps) c.args.spec.now.no) (sym c.is_waiting_empty.ensures ∙ c.if-is_waiting_empty.true)
 
 pub returns : goal.returns
 returns c =

@@ -5,7 +5,7 @@ use Rattle.core_tables.specs.declared.rows.Totals.{Totals}
 use Rattle.core_state.specs.declared.state.Core.{Core}
 use Rattle.core_state.specs.Stands.{Fields}
 use Rattle.core_state.proofs.Rooms.{room_due, room_beside}
-use Rattle.core_state.proofs.Steps.{holds_after, unowed_after, still_stands}
+use Rattle.core_state.proofs.Steps.{holds_after, unowed_after, still_stands, log_kept}
 use Rattle.core_moves.proofs.Begun.{began_fields, lines_few}
 use Rattle.core_moves.proofs.drain.begin.Goals as goal
 
@@ -25,8 +25,9 @@ returns-clause-stands c =
     let fields : Fields core-new core.topology (Drain cause ∷ core.journal.steps) = rw c.lines_read-core.ensures (began_fields core core.topology core.journal.steps cause c.push_spare.new.self x.fields) in
     let due = room_due core (Drain cause ∷ core.journal.steps) c.reserve.new.self.spare c.push_spare.new.self.spare x c.in_ok-reserve.ensures.room c.push_spare.ensures.spare in
     let room = room_beside core core-new (Drain cause) x c.requires.legal refl due refl refl refl refl refl refl refl in
-    let holds = holds_after core core-new (Drain cause) x refl written c.requires.legal fields room in
+    let holds = holds_after core core-new (Drain cause) x refl written c.requires.legal fields room
+    (log_kept core (Drain cause) c.push_spare.new.self.acked x c.requires.legal refl refl (c.push_spare.ensures.same_acked ∙ c.in_ok-reserve.ensures.same_acked)) in
     record { holds = holds; unowed = unowed_after core-new core.topology (Drain cause) core.journal.steps refl written refl }
 
 pub returns-in_err-reserve-clause-stands : goal.returns-in_err-reserve-clause-stands
-returns-in_err-reserve-clause-stands c = still_stands c.args.core.now c.reserve.new.self c.requires.stands c.reserve.ensures.same_steps c.reserve.ensures.spare
+returns-in_err-reserve-clause-stands c = still_stands c.args.core.now c.reserve.new.self c.requires.stands c.reserve.ensures.same_steps c.reserve.ensures.spare c.reserve.ensures.same_acked

@@ -1,21 +1,16 @@
-use Rattle.std.proofs.Common.{◌≡◌, drop, ◌∙◌, arith, ap, sym, Some, Bool, []}
+use Rattle.std.proofs.Common.{◌≡◌, drop, ◌∙◌, arith, ap, sym, Bool, []}
 use Rattle.std.specs.Prelude.{◌&&◌, find, option_map}
 use Rattle.std.proofs.lemmas.List.{drop_all}
 use Rattle.pipe_types.specs.declared.topology.StageSpec.{StageSpec}
 use Rattle.pipe_model.specs.Legal.{needs_restart, no_post_out}
-use Rattle.core_rows.proofs.Finding.{found_here, not_here, stage_there}
+use Rattle.core_rows.proofs.Finding.{found_no, not_here, stage_there}
 use Rattle.core_moves.proofs.finds.first_to_restart.Goals as goal
 
 pub returns-then-is_ready_to_restart : goal.returns-then-is_ready_to_restart
 returns-then-is_ready_to_restart c =
     let core = c.args.core.now in
-    let test : StageSpec → Bool = λ spec. needs_restart core.topology core.journal.steps spec.no && no_post_out core.topology core.journal.steps spec.no in
-    let specs = c.as_slice-spec-items.result.now in
-    let i = c.loop-spec.spec-index in
-    let spec = c.spec-item.result in
-    let here = ap test (sym c.spec-item.is) ∙ (sym c.is_ready_to_restart.ensures ∙ c.if-is_ready_to_restart.true) in
-    let all = sym (found_here test specs i spec c.loop-spec-test.true here) ∙ (c.loop-spec.invariant ∙ ap (find test) c.as_slice-spec-items.ensures) in
-    ap (λ (o : StageSpec). Some o.no) c.spec-item.is ∙ ap (option_map (λ (s : StageSpec). s.no)) all
+    found_no (λ spec. needs_restart core.topology core.journal.steps spec.no && no_post_out core.topology core.journal.steps spec.no) c.as_slice-spec-items.result.now core.topology.stages c.loop-spec.spec-index
+    c.spec-item.result c.as_slice-spec-items.ensures c.loop-spec-test.true c.spec-item.is (sym c.is_ready_to_restart.ensures ∙ c.if-is_ready_to_restart.true) c.loop-spec.invariant
 
 pub loop-spec-preserved : goal.loop-spec-preserved
 loop-spec-preserved c =

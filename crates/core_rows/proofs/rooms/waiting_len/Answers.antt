@@ -1,16 +1,12 @@
-use Rattle.std.proofs.Common.{◌∙◌, ap, length}
-use Rattle.std.specs.Prelude.{slice_get}
+use Rattle.std.proofs.Common.{◌∙◌, length}
 use Rattle.pipe_types.specs.Stages.{spec_of}
 use Rattle.pipe_model.specs.Flow.{waiting}
-use Rattle.core_tables.specs.Tables.{items_in}
 use Rattle.core_laws.specs.Columns.{part_of}
-use Rattle.core_rows.proofs.Queues.{length_mapped}
+use Rattle.core_rows.proofs.Queues.{read_waiting, length_mapped}
 use Rattle.core_rows.proofs.rooms.waiting_len.Goals as goal
 
 pub returns : goal.returns
 returns c =
     let core = c.args.core.now in
-    let s = c.args.stage in
     c.queue_len.ensures
-    ∙ (ap (λ qs. length (items_in (slice_get qs s.0))) c.deref.ensures.value
-    ∙ (ap length (c.requires.stands.holds.fields.waiting s) ∙ length_mapped (λ n. (part_of core.topology core.journal.steps (spec_of core.topology s) n, n)) (waiting core.topology core.journal.steps s)))
+    ∙ (read_waiting length core c.args.stage c.deref.result.now c.requires.stands.holds c.deref.ensures.value ∙ length_mapped (λ n. (part_of core.topology core.journal.steps (spec_of core.topology c.args.stage) n, n)) (waiting core.topology core.journal.steps c.args.stage))

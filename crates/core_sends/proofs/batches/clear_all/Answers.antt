@@ -4,26 +4,24 @@ use Rattle.std.proofs.lemmas.List.{length-set}
 use Rattle.std.proofs.lemmas.Option.{slice_get_read}
 use Rattle.pipe_types.specs.declared.room.Sent.{Sent}
 use Rattle.core_tables.specs.declared.rows.BatchRow.{BatchRow}
+use Rattle.core_tables.proofs.Tables.{no_unit}
 use Rattle.core_sends.proofs.Begun.{clear_step, closed_set}
 use Rattle.core_sends.proofs.batches.clear_all.Goals as goal
-
-abbrev none : Sent
-none = record { unit = 0; sub = record { consumer = record { 0 = 0 }; producer = record { 0 = 0 }; generation = 0 } }
 
 pub loop-sent-preserved : goal.loop-sent-preserved
 loop-sent-preserved c =
     let l = c.loop-sent in
     let units = c.args.units.now in
     let rows = l.batches.items in
-    let d : Sent = get_or units l.sent-index none in
-    let number = c.requires.within l.sent-index none (omega arith) in
+    let d : Sent = get_or units l.sent-index no_unit in
+    let number = c.requires.within l.sent-index no_unit (omega arith) in
     let least = number.least in
     let most = number.most in
     let row : BatchRow = c.index_mut-row.result.now in
     let new : BatchRow = record row { subs = c.clear.new.self } in
     let at : slice_get rows (d.unit - 1) ≡ Some row = slice_get_read rows (length rows) (d.unit - 1) row refl (omega (arith, least, most, l.invariant.len)) c.index_mut-row.ensures.value in
     record {
-      cleared = λ i. clear_step rows units l.sent-index none row new i (omega arith) least at c.clear.ensures.items ∙ l.invariant.cleared i;
+      cleared = λ i. clear_step rows units l.sent-index no_unit row new i (omega arith) least at c.clear.ensures.items ∙ l.invariant.cleared i;
       closed = λ i. closed_set rows (d.unit - 1) row new i at refl ∙ l.invariant.closed i;
       len = length-set rows (d.unit - 1) new ∙ l.invariant.len;
     }

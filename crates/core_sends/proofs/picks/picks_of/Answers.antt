@@ -6,6 +6,7 @@ use Rattle.core_laws.specs.Columns.{part_of}
 use Rattle.core_sends.specs.Picks.{picks_key, picks_row, picks_list}
 use Rattle.core_sends.proofs.Looking.{number_at, batch_there, picks_step}
 use Rattle.core_sends.proofs.Queued.{live_within, waiting_read, long_queue}
+use Rattle.core_sends.proofs.picks.picks_of.Goals.{After-index}
 use Rattle.core_sends.proofs.picks.picks_of.Goals as goal
 
 pub index-queue-requires : goal.index-queue-requires
@@ -21,29 +22,27 @@ index-requires c =
     let read = ap length (waiting_read c.args.core.now t h c.requires.holds.fields c.args.stage c.index-queue.result.now w.1 c.index-queue.ensures) in
     omega (arith, read, long_queue (part_of t h (spec_of t c.args.stage)) (waiting t h c.args.stage), c.requires.within)
 
-pub first_message-message-requires-clause-least : goal.first_message-message-requires-clause-least
-first_message-message-requires-clause-least c =
+-- the batch at this place of the queue
+number : (c : After-index) → c.index.result.now.1 ≡ get_or (waiting c.args.core.now.topology c.args.core.now.journal.steps c.args.stage) c.loop-k.k 0
+number c =
     let t = c.args.core.now.topology in
     let h = c.args.core.now.journal.steps in
     let s = c.args.stage in
     let x = c.requires.holds in
-    let w = live_within t h s x.sound c.requires.live in
-    let read = waiting_read c.args.core.now t h x.fields s c.index-queue.result.now w.1 c.index-queue.ensures in
-    let number : c.index.result.now.1 ≡ get_or (waiting t h s) c.loop-k.k 0 =
-    number_at (part_of t h (spec_of t s)) (waiting t h s) c.index-queue.result.now.items c.loop-k.k c.index.result.now read (omega (arith, c.requires.within)) c.index.ensures in
-    omega (arith, number, (batch_there t h s c.loop-k.k x.sound x.legal c.requires.batches (omega (arith, c.requires.within))).0)
+    let read = waiting_read c.args.core.now t h x.fields s c.index-queue.result.now (live_within t h s x.sound c.requires.live).1 c.index-queue.ensures in
+    number_at (part_of t h (spec_of t s)) (waiting t h s) c.index-queue.result.now.items c.loop-k.k c.index.result.now read (omega (arith, c.requires.within)) c.index.ensures
+
+pub first_message-message-requires-clause-least : goal.first_message-message-requires-clause-least
+first_message-message-requires-clause-least c =
+    let x = c.requires.holds in
+    let there = batch_there c.args.core.now.topology c.args.core.now.journal.steps c.args.stage c.loop-k.k x.sound x.legal c.requires.batches (omega (arith, c.requires.within)) in
+    omega (arith, number (goal.at.first_message-message-requires-clause-least c).After-index, there.0)
 
 pub first_message-message-requires-clause-waits : goal.first_message-message-requires-clause-waits
 first_message-message-requires-clause-waits c =
-    let t = c.args.core.now.topology in
-    let h = c.args.core.now.journal.steps in
-    let s = c.args.stage in
     let x = c.requires.holds in
-    let w = live_within t h s x.sound c.requires.live in
-    let read = waiting_read c.args.core.now t h x.fields s c.index-queue.result.now w.1 c.index-queue.ensures in
-    let number : c.index.result.now.1 ≡ get_or (waiting t h s) c.loop-k.k 0 =
-    number_at (part_of t h (spec_of t s)) (waiting t h s) c.index-queue.result.now.items c.loop-k.k c.index.result.now read (omega (arith, c.requires.within)) c.index.ensures in
-    subst (λ n. batch_waits_in s (batch t h n) ≡ true) (sym number) (batch_there t h s c.loop-k.k x.sound x.legal c.requires.batches (omega (arith, c.requires.within))).1
+    let there = batch_there c.args.core.now.topology c.args.core.now.journal.steps c.args.stage c.loop-k.k x.sound x.legal c.requires.batches (omega (arith, c.requires.within)) in
+    subst (λ n. batch_waits_in c.args.stage (batch c.args.core.now.topology c.args.core.now.journal.steps n) ≡ true) (sym (number (goal.at.first_message-message-requires-clause-waits c).After-index)) there.1
 
 pub loop-k-preserved : goal.loop-k-preserved
 loop-k-preserved c =
@@ -54,14 +53,10 @@ loop-k-preserved c =
     let old = c.loop-k.picks.items in
     let k = c.loop-k.k in
     let ws = take c.args.count (waiting t h s) in
-    let w = live_within t h s c.requires.holds.sound c.requires.live in
-    let read = waiting_read c.args.core.now t h c.requires.holds.fields s c.index-queue.result.now w.1 c.index-queue.ensures in
-    let number : c.index.result.now.1 ≡ get_or (waiting t h s) k 0 =
-    number_at (part_of t h (spec_of t s)) (waiting t h s) c.index-queue.result.now.items k c.index.result.now read (omega (arith, c.requires.within)) c.index.ensures in
     let first : get_or ws k 0 ≡ get_or (waiting t h s) k 0 = get_or-take c.args.count (waiting t h s) k 0 (omega arith) in
     let is : c.push_picks.new.picks.items ≡ old ++ picks_row (picks_by t h (view_of t h) (get_or ws k 0)) rooms =
     c.in_ok-push_picks.ensures
-    ∙ (ap (λ key. old ++ picks_row (picks_key t key) rooms) c.first_message-message.ensures ∙ ap (λ (n : ℕ). old ++ picks_row (picks_by t h (view_of t h) n) rooms) (number ∙ sym first)) in
+    ∙ (ap (λ key. old ++ picks_row (picks_key t key) rooms) c.first_message-message.ensures ∙ ap (λ (n : ℕ). old ++ picks_row (picks_by t h (view_of t h) n) rooms) (number (goal.at.loop-k-preserved c).After-index ∙ sym first)) in
     picks_step (picks_by t h (view_of t h)) rooms ws k old c.push_picks.new.picks.items (omega (arith, length-take-le c.args.count (waiting t h s) c.requires.within)) is
     ∙ c.loop-k.invariant
 

@@ -1,11 +1,9 @@
-use Rattle.std.proofs.Common.{◌≡◌, [], ◌++◌, length, Some, ◌+◌, map, ap, sym, ◌∙◌, refl, arith, get_or, drop}
-use Rattle.std.specs.Prelude.{slice_get}
+use Rattle.std.proofs.Common.{◌≡◌, [], ◌++◌, Some, ◌+◌, map, ap, sym, ◌∙◌, arith, get_or, drop}
 use Rattle.std.proofs.lemmas.List.{append-nil, drop_all}
-use Rattle.std.proofs.lemmas.Option.{slice_get_read}
 use Rattle.pipe_types.specs.declared.topology.StageSpec.{StageSpec}
 use Rattle.pipe_types.specs.Stages.{spec_of}
 use Rattle.pipe_model.specs.Lives.{live_subs_from, is_live}
-use Rattle.stage_laws.proofs.Numbering.{numbered_topology}
+use Rattle.stage_laws.proofs.Numbering.{numbered_topology, stage_there}
 use Rattle.core_sends.specs.Rooms.{room_on, room_between, and_room}
 use Rattle.core_sends.proofs.OpenDemand.{rooms_step, live_is}
 use Rattle.core_sends.proofs.rooms.rooms_of.Goals as goal
@@ -19,10 +17,7 @@ room-requires-clause-from c =
 
 pub room-requires-clause-to : goal.room-requires-clause-to
 room-requires-clause-to c =
-    let specs = c.as_slice-consumer-items.result.now in
-    let at : slice_get specs c.loop-consumer.consumer-index ≡ Some c.consumer-item.result = slice_get_read specs (length specs) c.loop-consumer.consumer-index c.consumer-item.result refl c.loop-consumer-test.true c.consumer-item.is in
-    (numbered_topology c.args.core.now.topology c.requires.holds.sound).found c.loop-consumer.consumer-index c.consumer-item.result
-    (ap (λ xs. slice_get xs c.loop-consumer.consumer-index) (sym c.as_slice-consumer-items.ensures) ∙ at)
+    stage_there c.args.core.now.topology c.as_slice-consumer-items.result.now c.loop-consumer.consumer-index c.consumer-item.result c.requires.holds.sound c.as_slice-consumer-items.ensures c.loop-consumer-test.true c.consumer-item.is
 
 pub loop-consumer-preserved : goal.loop-consumer-preserved
 loop-consumer-preserved c =

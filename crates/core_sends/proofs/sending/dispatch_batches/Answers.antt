@@ -19,10 +19,10 @@ plan_batches-requires-clause-few c =
     omega (arith, few, small)
 
 pub returns-in_err-reserve-clause-stands : goal.returns-in_err-reserve-clause-stands
-returns-in_err-reserve-clause-stands c = still_stands c.make_room.new.core c.reserve.new.self c.make_room.ensures.stands c.reserve.ensures.same_steps c.reserve.ensures.spare
+returns-in_err-reserve-clause-stands c = still_stands c.make_room.new.core c.reserve.new.self c.make_room.ensures.stands c.reserve.ensures.same_steps c.reserve.ensures.spare c.reserve.ensures.same_acked
 
 pub send_batches-requires-clause-stands : goal.send_batches-requires-clause-stands
-send_batches-requires-clause-stands c = still_stands c.make_room.new.core c.reserve.new.self c.make_room.ensures.stands c.reserve.ensures.same_steps c.reserve.ensures.spare
+send_batches-requires-clause-stands c = still_stands c.make_room.new.core c.reserve.new.self c.make_room.ensures.stands c.reserve.ensures.same_steps c.reserve.ensures.spare c.reserve.ensures.same_acked
 
 pub make_room-requires-clause-live : goal.make_room-requires-clause-live
 make_room-requires-clause-live c =

@@ -20,10 +20,10 @@ plan-requires-clause-few c =
     omega (arith, few, small)
 
 pub returns-in_err-reserve-clause-stands : goal.returns-in_err-reserve-clause-stands
-returns-in_err-reserve-clause-stands c = still_stands c.make_room.new.core c.reserve.new.self c.make_room.ensures.stands c.reserve.ensures.same_steps c.reserve.ensures.spare
+returns-in_err-reserve-clause-stands c = still_stands c.make_room.new.core c.reserve.new.self c.make_room.ensures.stands c.reserve.ensures.same_steps c.reserve.ensures.spare c.reserve.ensures.same_acked
 
 pub send_messages-requires-clause-holds : goal.send_messages-requires-clause-holds
-send_messages-requires-clause-holds c = (still_stands c.make_room.new.core c.reserve.new.self c.make_room.ensures.stands c.reserve.ensures.same_steps c.reserve.ensures.spare).holds
+send_messages-requires-clause-holds c = (still_stands c.make_room.new.core c.reserve.new.self c.make_room.ensures.stands c.reserve.ensures.same_steps c.reserve.ensures.spare c.reserve.ensures.same_acked).holds
 
 pub make_room-requires-clause-live : goal.make_room-requires-clause-live
 make_room-requires-clause-live c =

@@ -4,33 +4,31 @@ use Rattle.pipe_types.specs.declared.room.Sent.{Sent}
 use Rattle.core_tables.specs.Tables.{named}
 use Rattle.core_tables.proofs.Named.{rest_is, front_step, rest_step}
 use Rattle.core_sends.specs.Losing.{numbers_in}
+use Rattle.core_tables.proofs.Tables.{no_unit}
 use Rattle.core_sends.proofs.sending.name_units.Goals as goal
-
-abbrev none : Sent
-none = record { unit = 0; sub = record { consumer = record { 0 = 0 }; producer = record { 0 = 0 }; generation = 0 } }
 
 pub index-requires : goal.index-requires
 index-requires c =
     let l = c.loop-i in
-    let read : c.index-sent.result.now ≡ get_or l.units.items l.i none = get_or_read l.units.items l.i c.index-sent.result.now (omega arith) c.index-sent.ensures none in
-    let same : c.index-sent.result.now.unit ≡ (get_or c.args.units.now.items l.i none).unit = ap (λ (d : Sent). d.unit) (read ∙ rest_is l.units.items c.args.units.now.items l.i none l.invariant.rest) in
-    omega (arith, same, c.requires.within l.i none (omega arith))
+    let read : c.index-sent.result.now ≡ get_or l.units.items l.i no_unit = get_or_read l.units.items l.i c.index-sent.result.now (omega arith) c.index-sent.ensures no_unit in
+    let same : c.index-sent.result.now.unit ≡ (get_or c.args.units.now.items l.i no_unit).unit = ap (λ (d : Sent). d.unit) (read ∙ rest_is l.units.items c.args.units.now.items l.i no_unit l.invariant.rest) in
+    omega (arith, same, c.requires.within l.i no_unit (omega arith))
 
 pub loop-i-preserved : goal.loop-i-preserved
 loop-i-preserved c =
     let l = c.loop-i in
-    let read : c.index-sent.result.now ≡ get_or l.units.items l.i none = get_or_read l.units.items l.i c.index-sent.result.now (omega arith) c.index-sent.ensures none in
-    let same : c.index-sent.result.now ≡ get_or c.args.units.now.items l.i none = read ∙ rest_is l.units.items c.args.units.now.items l.i none l.invariant.rest in
-    let below = c.requires.within l.i none (omega arith) in
+    let read : c.index-sent.result.now ≡ get_or l.units.items l.i no_unit = get_or_read l.units.items l.i c.index-sent.result.now (omega arith) c.index-sent.ensures no_unit in
+    let same : c.index-sent.result.now ≡ get_or c.args.units.now.items l.i no_unit = read ∙ rest_is l.units.items c.args.units.now.items l.i no_unit l.invariant.rest in
+    let below = c.requires.within l.i no_unit (omega arith) in
     let new : Sent = record { unit = c.index.result.now.1; sub = c.index-sent.result.now.sub } in
     let at : c.index.result.now ≡ get_or c.args.waiting.now.items c.index-sent.result.now.unit c.index.result.now = c.index.ensures in
     let named_at : get_or (numbers_in c.args.waiting.now.items) c.index-sent.result.now.unit 0 ≡ (get_or c.args.waiting.now.items c.index-sent.result.now.unit c.index.result.now).1 =
     get_or-map (λ (u : ℕ × ℕ). u.1) c.args.waiting.now.items c.index-sent.result.now.unit c.index.result.now 0 (omega (arith, ap (λ (d : Sent). d.unit) same, below)) in
-    let is : new ≡ named (numbers_in c.args.waiting.now.items) (get_or c.args.units.now.items l.i none) =
+    let is : new ≡ named (numbers_in c.args.waiting.now.items) (get_or c.args.units.now.items l.i no_unit) =
     ap (λ n. record { unit = n; sub = c.index-sent.result.now.sub }) (ap (λ (u : ℕ × ℕ). u.1) at ∙ sym named_at)
     ∙ ap (named (numbers_in c.args.waiting.now.items)) same in
     record {
-      front = front_step (named (numbers_in c.args.waiting.now.items)) l.units.items c.args.units.now.items l.i none new (omega arith) (omega arith) l.invariant.front is;
+      front = front_step (named (numbers_in c.args.waiting.now.items)) l.units.items c.args.units.now.items l.i no_unit new (omega arith) (omega arith) l.invariant.front is;
       rest = rest_step l.units.items c.args.units.now.items l.i new l.invariant.rest;
       len = search rules;
     }

@@ -1,4 +1,4 @@
-use Rattle.std.proofs.Common.{◌≡◌, ℕ, suc, ◌<◌, ◌≤◌, List, length, map, ◌∙◌, arith, refl, ap, sym, subst, All, drop, ◌++◌, [], ◌∷◌, Some, true}
+use Rattle.std.proofs.Common.{◌≡◌, ℕ, suc, ◌<◌, ◌≤◌, List, length, ◌∙◌, arith, refl, ap, sym, subst, All, drop, ◌++◌, [], ◌∷◌, Some, true}
 use Rattle.std.specs.Prelude.{option_map, slice_get}
 use Rattle.std.specs.Option.{option_copied}
 use Rattle.std.specs.Vec.{with_item}
@@ -6,14 +6,14 @@ use Rattle.std.proofs.lemmas.Option.{slice_get_read}
 use Rattle.pipe_types.specs.declared.room.Sent.{Sent}
 use Rattle.pipe_types.specs.declared.step.Step.TheVariants.{Dispatch}
 use Rattle.pipe_types.specs.Stages.{spec_of}
-use Rattle.pipe_model.specs.Flow.{waiting, delivered_to, dispatched}
+use Rattle.pipe_model.specs.Flow.{waiting, delivered_to, dispatched, batch, numbers_in as batch_numbers}
 use Rattle.stage_subs.specs.Subs.{row_at, sent_more}
-use Rattle.core_tables.specs.Tables.{named, queue_at, count_between}
+use Rattle.core_tables.specs.Tables.{queue_at, count_between}
 use Rattle.core_state.specs.declared.state.Core.{Core}
 use Rattle.core_state.specs.Stands.{Fields}
 use Rattle.core_state.specs.Room.{Roomy}
 use Rattle.core_state.proofs.Rooms.{room_after, room_due}
-use Rattle.core_state.proofs.Steps.{holds_after, unowed_after}
+use Rattle.core_state.proofs.Steps.{holds_after, unowed_after, log_kept}
 use Rattle.core_sends.proofs.Roomy.{left_queues}
 use Rattle.core_sends.specs.Losing.{still_waits, numbers_in}
 use Rattle.core_sends.specs.Rooms.{planned}
@@ -21,6 +21,8 @@ use Rattle.core_sends.proofs.AfterSending.{are_moved, sent_fields}
 use Rattle.core_sends.proofs.Reached.{rest_waits, queue_within}
 use Rattle.core_sends.proofs.Sendable.{dispatching, no_stage, units_within, units_numbered, units_live, units_asked, room_sent, queue_read, many_wait, units_named, sent_well}
 use Rattle.core_sends.proofs.Sent.{planned_below}
+use Rattle.queue_laws.proofs.Alone.{none_alone}
+use Rattle.std.specs.List.{flat_map}
 use Rattle.core_sends.proofs.sending.send_messages.Goals as goal
 
 pub unreachable-requires : goal.unreachable-requires
@@ -128,5 +130,6 @@ returns-clause-stands c =
     room_after core core-new (Dispatch s) x c.requires.legal refl (room_due core (Dispatch s ∷ before) core.journal.spare c.push_spare.new.self.spare x c.requires.spare c.push_spare.ensures.spare)
     (c.leave.ensures.places_capacity ∙ c.place_all.ensures.capacity) c.leave.ensures.settled_capacity refl refl
     (λ u h. left_queues core s c.index_mut.result.now c.leave.new.queue u x rows was c.leave.ensures.room h) refl in
-    let holds = holds_after core core-new (Dispatch s) x refl c.push_spare.ensures.written c.requires.legal fields room in
+    let holds = holds_after core core-new (Dispatch s) x refl c.push_spare.ensures.written c.requires.legal fields room
+    (log_kept core (Dispatch s) c.push_spare.new.self.acked x c.requires.legal (ap (λ bs. flat_map (λ b. batch_numbers (batch t before b)) bs) (none_alone t before s c.requires.messages)) refl c.push_spare.ensures.same_acked) in
     record { holds = holds; unowed = unowed_after core-new t (Dispatch s) before refl c.push_spare.ensures.written refl }

@@ -1,8 +1,9 @@
-use Rattle.std.proofs.Common.{◌≡◌, suc, ◌≤◌, ◌++◌, List, length, ◌∙◌, arith, refl, ap, sym, subst, All}
+use Rattle.std.proofs.Common.{◌≡◌, suc, ◌≤◌, ◌∷◌, ◌++◌, List, length, ◌∙◌, arith, refl, ap, sym, subst, All}
 use Rattle.std.specs.Prelude.{option_map, slice_get, if◌then◌else◌, ◌==◌}
 use Rattle.pipe_types.specs.declared.step.Step.TheVariants.{Done}
 use Rattle.pipe_types.specs.declared.message.Reply.{Reply}
-use Rattle.pipe_model.specs.History.{accepted}
+use Rattle.pipe_model.specs.History.{History, accepted}
+use Rattle.pipe_journal.specs.Recorded.{AckLog}
 use Rattle.pipe_model.specs.Posts.{last_take}
 use Rattle.pipe_model.specs.Content.{has_crash}
 use Rattle.pipe_model.specs.Flow.{done}
@@ -11,11 +12,11 @@ use Rattle.core_tables.specs.Tables.{queue_at, list_at}
 use Rattle.core_laws.specs.Columns.{running}
 use Rattle.core_state.specs.declared.state.Core.{Core}
 use Rattle.core_state.proofs.Rooms.{room_after}
-use Rattle.core_state.proofs.Steps.{holds_after}
+use Rattle.core_state.proofs.Steps.{holds_after, log_fits, log_noted}
 use Rattle.core_takes.proofs.Rooming.{done_due, answer_queues}
 use Rattle.core_takes.specs.Replies.{passed_parts, marked, noted, counted_on, HasRow, parted, take_in}
 use Rattle.core_takes.proofs.TakenChunk.{list_read}
-use Rattle.core_takes.proofs.Answered.{known_answer, chunk_read, chunk_numbered, Answered, answered_fields, counts_fit, rows_there, replies_few}
+use Rattle.core_takes.proofs.Answered.{known_answer, chunk_read, chunk_numbered, chunk_acks, Answered, answered_fields, counts_fit, rows_there, replies_few}
 use Rattle.core_takes.proofs.answers.answered.Goals as goal
 
 pub index-chunk-requires : goal.index-chunk-requires
@@ -47,6 +48,20 @@ mark_all-requires-clause-many c =
     let read = chunk_read c.args.core.now c.args.stage c.args.replies c.index-chunk.result.now c.requires.holds c.requires.legal c.requires.calm c.index-chunk.ensures in
     ap length c.as_slice-2.ensures ∙ ((known_answer c.args.core.now c.args.stage c.args.replies c.requires.holds c.requires.legal c.requires.calm).many ∙ sym (ap length (c.deref-2.ensures.value ∙ read)))
 
+pub note_acked-requires-clause-least : goal.note_acked-requires-clause-least
+note_acked-requires-clause-least c =
+    let core = c.args.core.now in
+    let read = chunk_read core c.args.stage c.args.replies c.index-chunk.result.now c.requires.holds c.requires.legal c.requires.calm c.index-chunk.ensures in
+    λ i d below. (chunk_numbered core c.args.stage c.args.replies c.deref-5.result.now (length core.places.items) c.requires.holds c.requires.legal c.requires.calm (c.deref-5.ensures.value ∙ read) c.requires.holds.fields.sized.places i d below).0
+
+pub note_acked-requires-clause-room : goal.note_acked-requires-clause-room
+note_acked-requires-clause-room c =
+    let core = c.args.core.now in
+    let read = chunk_read core c.args.stage c.args.replies c.index-chunk.result.now c.requires.holds c.requires.legal c.requires.calm c.index-chunk.ensures in
+    let many = ap length (c.deref-5.ensures.value ∙ read) in
+    let fits = log_fits core (Done c.args.stage c.args.replies) (running core.topology core.journal.steps c.args.stage) c.requires.holds (chunk_acks core c.args.stage c.args.replies c.requires.holds c.requires.legal c.requires.calm) in
+    omega (arith, many, fits)
+
 pub note_all-requires-clause-within : goal.note_all-requires-clause-within
 note_all-requires-clause-within c =
     let core = c.args.core.now in
@@ -69,14 +84,14 @@ queue_passed-requires-clause-room c =
 
 pub push_spare-requires : goal.push_spare-requires
 push_spare-requires c =
-    omega (arith, done_due c.args.core.now c.args.stage c.args.replies c.requires.holds c.requires.legal, c.requires.holds.room.steps)
+    omega (arith, done_due c.args.core.now c.args.stage c.args.replies c.requires.holds c.requires.legal, c.requires.holds.room.steps, c.note_acked.ensures.same_spare)
 
 pub count_taken-requires : goal.count_taken-requires
 count_taken-requires c =
     let core = c.args.core.now in
     let s = c.args.stage in
     let known = known_answer core s c.args.replies c.requires.holds c.requires.legal c.requires.calm in
-    let took : last_take core.journal.steps s ≡ c.last_take-take.result = sym (c.last_take-take.ensures ∙ (ap (λ rows. take_in (slice_get rows s.0)) c.deref-3.ensures.value ∙ ap take_in (c.requires.holds.fields.stages s known.within))) in
+    let took : last_take core.journal.steps s ≡ c.last_take-take.result = sym (c.last_take-take.ensures ∙ (ap (λ rows. take_in (slice_get rows s.0)) c.deref-6.ensures.value ∙ ap take_in (c.requires.holds.fields.stages s known.within))) in
     counts_fit core s c.args.replies c.last_take-take.result c.requires.holds known c.requires.calm took
 
 pub clear_chunk-requires : goal.clear_chunk-requires
@@ -87,6 +102,9 @@ pub come_home-requires : goal.come_home-requires
 come_home-requires c =
     omega (arith, (known_answer c.args.core.now c.args.stage c.args.replies c.requires.holds c.requires.legal c.requires.calm).within, c.requires.holds.fields.sized.posts)
 
+pub returns-clause-appended : goal.returns-clause-appended
+returns-clause-appended c = c.push_spare.ensures.written ∙ ap (λ (h : History). Done c.args.stage c.args.replies ∷ h) c.note_acked.ensures.same_steps
+
 pub returns-clause-holds : goal.returns-clause-holds
 returns-clause-holds c =
     let core = c.args.core.now in
@@ -96,7 +114,7 @@ returns-clause-holds c =
     let b = c.has_batchers-passes_on.result in
     let p = c.is_parted-by_partition.result in
     let read : c.index-chunk.result.now.items ≡ list_at core.chunks.items s = list_read core.chunks.items s c.index-chunk.result.now (omega (arith, known.within, x.fields.sized.chunks)) c.index-chunk.ensures in
-    let took : c.last_take-take.result ≡ last_take core.journal.steps s = c.last_take-take.ensures ∙ (ap (λ rows. take_in (slice_get rows s.0)) c.deref-3.ensures.value ∙ ap take_in (x.fields.stages s known.within)) in
+    let took : c.last_take-take.result ≡ last_take core.journal.steps s = c.last_take-take.ensures ∙ (ap (λ rows. take_in (slice_get rows s.0)) c.deref-6.ensures.value ∙ ap take_in (x.fields.stages s known.within)) in
     let core-new : Core = record core { journal = c.push_spare.new.self; posts = c.come_home.new.posts; subs = c.count_taken.new.subs; waiting = c.queue_passed.new.waiting; chunks = c.clear_chunk.new.chunks; places = c.answer_all.new.places; settled = c.mark_all.new.settled; contents = c.note_all.new.contents; totals = record core.totals { quiet = 0 } } in
     let new : Answered core s c.args.replies b p c.come_home.new.posts c.count_taken.new.subs c.queue_passed.new.waiting c.clear_chunk.new.chunks c.answer_all.new.places c.mark_all.new.settled c.note_all.new.contents =
     record {
@@ -120,7 +138,12 @@ returns-clause-holds c =
     } in
     let fields = answered_fields core s c.args.replies b p c.push_spare.new.self c.come_home.new.posts c.count_taken.new.subs c.queue_passed.new.waiting c.clear_chunk.new.chunks c.answer_all.new.places c.mark_all.new.settled c.note_all.new.contents
     x known c.requires.calm c.has_batchers-passes_on.ensures (c.is_parted-by_partition.ensures ∙ ap parted known.spec-is) new in
-    let room = room_after core core-new (Done s c.args.replies) x c.requires.legal refl (omega (arith, done_due core s c.args.replies x c.requires.legal, x.room.steps, c.push_spare.ensures.spare))
+    let room = room_after core core-new (Done s c.args.replies) x c.requires.legal refl (omega (arith, done_due core s c.args.replies x c.requires.legal, x.room.steps, c.push_spare.ensures.spare, c.note_acked.ensures.same_spare))
     c.answer_all.ensures.capacity c.mark_all.ensures.capacity refl c.note_all.ensures.capacity
     (answer_queues core s c.clear_chunk.new.chunks.items c.queue_passed.new.waiting.items x c.clear_chunk.ensures.cleared c.queue_passed.ensures.rooms) refl in
-    holds_after core core-new (Done s c.args.replies) x refl c.push_spare.ensures.written c.requires.legal fields room
+    let written = c.push_spare.ensures.written ∙ ap (λ (h : History). Done s c.args.replies ∷ h) c.note_acked.ensures.same_steps in
+    let chunk = chunk_read core s c.args.replies c.index-chunk.result.now x c.requires.legal c.requires.calm c.index-chunk.ensures in
+    holds_after core core-new (Done s c.args.replies) x refl written c.requires.legal fields room
+    (log_noted core core-new (Done s c.args.replies) (running core.topology core.journal.steps s) c.push_spare.new.self.acked c.deref-3.result.now c.deref-4.result.now c.len-entry.result c.deref-5.result.now
+    x c.requires.legal refl (chunk_acks core s c.args.replies x c.requires.legal c.requires.calm) fields c.deref-3.ensures.value c.deref-4.ensures.value c.len-entry.ensures (c.deref-5.ensures.value ∙ chunk)
+    (ap (λ (a : AckLog). a.rows) c.push_spare.ensures.same_acked ∙ c.note_acked.ensures.noted) (ap (λ (a : AckLog). a.room) c.push_spare.ensures.same_acked ∙ c.note_acked.ensures.same_room))

@@ -7,7 +7,7 @@ use Rattle.core_tables.specs.Rows.{taking, post_at}
 use Rattle.core_tables.specs.Tables.{list_at, queue_at}
 use Rattle.core_state.specs.declared.state.Core.{Core}
 use Rattle.core_state.specs.Stands.{Fields}
-use Rattle.core_state.proofs.Steps.{holds_after}
+use Rattle.core_state.proofs.Steps.{holds_after, log_kept}
 use Rattle.core_takes.specs.Takes.{take_of, out_of}
 use Rattle.core_takes.proofs.Rooming.{if_other, take_room}
 use Rattle.core_takes.proofs.Taking.{taken_fields}
@@ -90,3 +90,4 @@ returns-clause-holds c =
     (λ t other. c.start_chunk.ensures.chunks t ∙ if_other (s.0 == t.0) (list_at core.chunks.items t ++ take c.args.most (units_on c.args.sub (queue_at core.inboxes.items t))) (list_at core.chunks.items t) other)
     few c.requires.queue in
     holds_after core core-new (take_of core.topology core.journal.steps s c.args.sub c.args.most) x refl (c.push_spare.ensures.written ∙ ap (λ m. Take s c.args.sub m ∷ core.journal.steps) size) c.requires.legal fields room
+    (log_kept core (take_of core.topology core.journal.steps s c.args.sub c.args.most) c.push_spare.new.self.acked x c.requires.legal refl refl c.push_spare.ensures.same_acked)

@@ -1,20 +1,17 @@
 use Rattle.std.proofs.Common.{sym, subst}
 use Rattle.std.specs.Prelude.{OnOk, OnErr}
 use Rattle.rate_gate.specs.contracts.source.GatedSourceByteSource.TheImpl.{ghosts}
-use Rattle.stage_bodies.specs.Seen.{body_at, source_seen, sources_seen, sink_seen}
-use Rattle.edge_names.specs.Seen.{edges_seen}
+use Rattle.stage_bodies.specs.Seen.{body_at, sources_seen}
 use Rattle.edge_names.specs.Supplies.{fed, supplied_by}
 use Rattle.edge_names.specs.Returned.{GivesOff, IsBackUpTo, IsCalm, named_sink, named_source, source_in}
+use Rattle.edge_names.proofs.Seeing.{seen_by}
 use Rattle.edge_names.proofs.Returns.{calm_none}
 use Rattle.edge_names.proofs.Supplying.{calm_fed, calm_sunk, none_stood, off_feed, off_none, off_written, up_to_feed, up_to_one}
 use Rattle.edge_names.proofs.back.back_stage.Goals as goal
 
 pub returns-in-Some-clause-back : goal.returns-in-Some-clause-back
 returns-in-Some-clause-back g c = λ paces.
-    let e = g.E.Edges in
-    let s = g.E.Source.ByteSource in
-    let k = g.E.Sink.ByteSink in
-    let seen = edges_seen e.told e.named e.asked e.faults e.sources_back e.sinks_back (source_seen s) (sink_seen k.told k.held k.faults) in
+    let seen = seen_by g.E.Edges g.E.Source.ByteSource g.E.Sink.ByteSink in
     let spec = c.args.spec.now in
     let feed = g.S.Supply.feeds c.args.supply.now spec in
     let body = body_at g.B.Works.look c.args.bodies.now.items c.args.at in
@@ -26,10 +23,7 @@ returns-in-Some-clause-back g c = λ paces.
 
 pub returns-in-Some-clause-in_part : goal.returns-in-Some-clause-in_part
 returns-in-Some-clause-in_part g c = λ paces.
-    let e = g.E.Edges in
-    let s = g.E.Source.ByteSource in
-    let k = g.E.Sink.ByteSink in
-    let seen = edges_seen e.told e.named e.asked e.faults e.sources_back e.sinks_back (source_seen s) (sink_seen k.told k.held k.faults) in
+    let seen = seen_by g.E.Edges g.E.Source.ByteSource g.E.Sink.ByteSink in
     let spec = c.args.spec.now in
     let feed = g.S.Supply.feeds c.args.supply.now spec in
     let body = body_at g.B.Works.look c.args.bodies.now.items c.args.at in
@@ -50,10 +44,7 @@ returns-in-Some-clause-calm g c = λ paces.
 
 pub returns-in-None-clause-back : goal.returns-in-None-clause-back
 returns-in-None-clause-back g c = λ paces.
-    let e = g.E.Edges in
-    let s = g.E.Source.ByteSource in
-    let k = g.E.Sink.ByteSink in
-    let seen = edges_seen e.told e.named e.asked e.faults e.sources_back e.sinks_back (source_seen s) (sink_seen k.told k.held k.faults) in
+    let seen = seen_by g.E.Edges g.E.Source.ByteSource g.E.Sink.ByteSink in
     let spec = c.args.spec.now in
     let feed = g.S.Supply.feeds c.args.supply.now spec in
     let body = body_at g.B.Works.look c.args.bodies.now.items c.args.at in
@@ -73,10 +64,7 @@ returns-in-BatchProcessor-clause-in_part g c = λ paces. up_to_one c.back_sink_o
 
 pub returns-in-BatchProcessor-clause-back : goal.returns-in-BatchProcessor-clause-back
 returns-in-BatchProcessor-clause-back g c = λ paces.
-    let e = g.E.Edges in
-    let s = g.E.Source.ByteSource in
-    let k = g.E.Sink.ByteSink in
-    let seen = edges_seen e.told e.named e.asked e.faults e.sources_back e.sinks_back (source_seen s) (sink_seen k.told k.held k.faults) in
+    let seen = seen_by g.E.Edges g.E.Source.ByteSource g.E.Sink.ByteSink in
     let spec = c.args.spec.now in
     let feed = g.S.Supply.feeds c.args.supply.now spec in
     let body = body_at g.B.Works.look c.args.bodies.now.items c.args.at in

@@ -1,8 +1,8 @@
 use Rattle.std.proofs.Common.{refl, ◌∙◌}
-use Rattle.stage_bodies.specs.Seen.{body_at, source_seen, sink_seen}
+use Rattle.stage_bodies.specs.Seen.{body_at}
 use Rattle.stage_laws.proofs.Numbering.{numbered_topology}
-use Rattle.edge_names.specs.Seen.{edges_seen}
 use Rattle.edge_names.specs.Supplies.{at_paces}
+use Rattle.edge_names.proofs.Seeing.{seen_by}
 use Rattle.edge_names.proofs.Openings.{here_at}
 use Rattle.edge_names.proofs.Returns.{off_nothing, back_part, back_turn, callbacks_more, callbacks_same, calm_start, calm_turn, rest_turn}
 use Rattle.edge_names.proofs.back.give_back_stages.Goals as goal
@@ -10,10 +10,7 @@ use Rattle.edge_names.proofs.back.give_back_stages.Goals as goal
 pub loop-spec-init : goal.loop-spec-init
 loop-spec-init g c =
     let feeds = at_paces c.args.topology.now (g.S.Supply.feeds c.args.supply.now) in
-    let e = g.E.Edges in
-    let s = g.E.Source.ByteSource in
-    let k = g.E.Sink.ByteSink in
-    let seen = edges_seen e.told e.named e.asked e.faults e.sources_back e.sinks_back (source_seen s) (sink_seen k.told k.held k.faults) in
+    let seen = seen_by g.E.Edges g.E.Source.ByteSource g.E.Sink.ByteSink in
     let was = body_at g.B.Works.look c.args.bodies.now.items in
     record {
       len = refl;
@@ -26,10 +23,7 @@ loop-spec-init g c =
 pub loop-spec-preserved : goal.loop-spec-preserved
 loop-spec-preserved g c =
     let feeds = at_paces c.args.topology.now (g.S.Supply.feeds c.args.supply.now) in
-    let e = g.E.Edges in
-    let s = g.E.Source.ByteSource in
-    let k = g.E.Sink.ByteSink in
-    let seen = edges_seen e.told e.named e.asked e.faults e.sources_back e.sinks_back (source_seen s) (sink_seen k.told k.held k.faults) in
+    let seen = seen_by g.E.Edges g.E.Source.ByteSource g.E.Sink.ByteSink in
     let look = g.B.Works.look in
     let x = c.loop-spec.invariant in
     let topology = c.args.topology.now in
@@ -51,16 +45,12 @@ loop-spec-preserved g c =
 
 pub returns-in-Err-clause-in_part : goal.returns-in-Err-clause-in_part
 returns-in-Err-clause-in_part g c =
-    let feeds = at_paces c.args.topology.now (g.S.Supply.feeds c.args.supply.now) in
-    let e = g.E.Edges in
-    let s = g.E.Source.ByteSource in
-    let k = g.E.Sink.ByteSink in
-    let seen = edges_seen e.told e.named e.asked e.faults e.sources_back e.sinks_back (source_seen s) (sink_seen k.told k.held k.faults) in
-    let look = g.B.Works.look in
-    let x = c.loop-spec.invariant in
     let topology = c.args.topology.now in
-    let n = c.loop-spec.spec-index in
+    let feeds = at_paces topology (g.S.Supply.feeds c.args.supply.now) in
+    let seen = seen_by g.E.Edges g.E.Source.ByteSource g.E.Sink.ByteSink in
+    let x = c.loop-spec.invariant in
     let spec = c.spec-item.result in
-    let here = here_at topology.stages c.as_slice-spec-items.result.now n spec c.as_slice-spec-items.ensures c.loop-spec-test.true c.spec-item.is in
-    back_part feeds topology n c.place_of-at.result spec (body_at look c.args.bodies.now.items) (body_at look c.loop-spec.bodies.items) (seen c.args.edges.now) (seen c.loop-spec.edges) (seen c.back_stage.new.edges)
-    (numbered_topology topology c.requires.sound) here (rw c.as_slice-spec-items.ensures at c.loop-spec-test.true) c.place_of-at.ensures x.rest x.back (c.in-Err.ensures.in_part feeds.pace)
+    back_part feeds topology c.loop-spec.spec-index c.place_of-at.result spec (body_at g.B.Works.look c.args.bodies.now.items) (body_at g.B.Works.look c.loop-spec.bodies.items)
+    (seen c.args.edges.now) (seen c.loop-spec.edges) (seen c.back_stage.new.edges) (numbered_topology topology c.requires.sound)
+    (here_at topology.stages c.as_slice-spec-items.result.now c.loop-spec.spec-index spec c.as_slice-spec-items.ensures c.loop-spec-test.true c.spec-item.is)
+    (rw c.as_slice-spec-items.ensures at c.loop-spec-test.true) c.place_of-at.ensures x.rest x.back (c.in-Err.ensures.in_part feeds.pace)

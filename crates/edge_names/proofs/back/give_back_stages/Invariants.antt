@@ -1,17 +1,14 @@
 use Rattle.std.proofs.Common.{◌≡◌, ◌≤◌, ◌+◌, ◌*◌, ℕ, take, length}
-use Rattle.stage_bodies.specs.Seen.{body_at, source_seen, sink_seen}
-use Rattle.edge_names.specs.Seen.{edges_seen}
+use Rattle.stage_bodies.specs.Seen.{body_at}
 use Rattle.edge_names.specs.Supplies.{at_paces}
 use Rattle.edge_names.specs.Returned.{AreCalm, GivesOff, KeepsCallbacks, sources_of, sinks_of}
+use Rattle.edge_names.proofs.Seeing.{seen_by}
 use Rattle.edge_names.proofs.back.give_back_stages.Given as goal
 
 abbrev pub invariant-loop-spec : goal.invariant-loop-spec
 invariant-loop-spec g l =
     let feeds = at_paces l.fn.topology (g.S.Supply.feeds l.fn.supply) in
-    let e = g.E.Edges in
-    let s = g.E.Source.ByteSource in
-    let k = g.E.Sink.ByteSink in
-    let seen = edges_seen e.told e.named e.asked e.faults e.sources_back e.sinks_back (source_seen s) (sink_seen k.told k.held k.faults) in
+    let seen = seen_by g.E.Edges g.E.Source.ByteSource g.E.Sink.ByteSink in
     let was = body_at g.B.Works.look l.fn.bodies.items in
     let now = body_at g.B.Works.look l.bodies.items in
     let done = take l.spec-index l.fn.topology.stages in

@@ -1,8 +1,7 @@
 use Rattle.std.proofs.Common.{[], ◌∷◌, sym, ◌∙◌, subst}
 use Rattle.pipe_edges.specs.declared.edges.EdgeKind.TheVariants.{Source}
-use Rattle.stage_bodies.specs.Seen.{source_seen, sink_seen}
-use Rattle.edge_names.specs.Seen.{edges_seen}
 use Rattle.edge_names.specs.Opened.{IsOneFailed}
+use Rattle.edge_names.proofs.Seeing.{seen_by}
 use Rattle.edge_names.proofs.Cuts.{cut_uncalled, cut_empty, cut_returned, failed_call}
 use Rattle.edge_names.proofs.lines.open_lines.Goals as goal
 
@@ -18,10 +17,6 @@ returns-clause-cut_off g c = cut_empty _ _ _ _ _ (rw c.in-Err-OutOfMemory.field-
 
 pub returns-in-Err-Failed-clause-failed : goal.returns-in-Err-Failed-clause-failed
 returns-in-Err-Failed-clause-failed g c =
-    let e = g.E.Edges in
-    let s = g.E.Source.ByteSource in
-    let k = g.E.Sink.ByteSink in
-    let seen = edges_seen e.told e.named e.asked e.faults e.sources_back e.sinks_back (source_seen s) (sink_seen k.told k.held k.faults) in
-    let old = seen c.args.edges.now in
-    let new = seen c.open_control_source.new.edges in
-    subst (λ n. IsOneFailed ((Source, c.args.name.now) ∷ []) n old new) (sym (c.in-Ok.ensures ∙ c.as_str.ensures)) (failed_call Source c.args.name.now old new (rw c.in-Err-Failed.field-0-is at c.in-Err-Failed.ensures.opens))
+    let seen = seen_by g.E.Edges g.E.Source.ByteSource g.E.Sink.ByteSink in
+    subst (λ n. IsOneFailed ((Source, c.args.name.now) ∷ []) n (seen c.args.edges.now) (seen c.open_control_source.new.edges)) (sym (c.in-Ok.ensures ∙ c.as_str.ensures))
+    (failed_call Source c.args.name.now (seen c.args.edges.now) (seen c.open_control_source.new.edges) (rw c.in-Err-Failed.field-0-is at c.in-Err-Failed.ensures.opens))

@@ -1,18 +1,15 @@
 use Rattle.std.proofs.Common.{◌≡◌, ◌+◌, ◌++◌, ◌∷◌, [], length, map, reverse, ap, ◌∙◌, arith, rules}
 use Rattle.std.proofs.lemmas.List.{length-append}
 use Rattle.rate_gate.specs.contracts.source.GatedSourceByteSource.TheImpl.{ghosts}
-use Rattle.stage_bodies.specs.Seen.{source_seen, sink_seen}
-use Rattle.edge_names.specs.Seen.{edges_seen}
+use Rattle.stage_bodies.specs.Seen.{source_seen}
 use Rattle.edge_names.specs.Supplies.{merged_names}
+use Rattle.edge_names.proofs.Seeing.{seen_by}
 use Rattle.edge_names.proofs.Merges.{back_all, back_begin, back_turn, back_up_to, is_some_merge}
 use Rattle.edge_names.proofs.merging.back_streams.Goals as goal
 
 pub loop-gated-init : goal.loop-gated-init
 loop-gated-init g c =
-    let e = g.E.Edges in
-    let s = g.E.Source.ByteSource in
-    let k = g.E.Sink.ByteSink in
-    let seen = edges_seen e.told e.named e.asked e.faults e.sources_back e.sinks_back (source_seen s) (sink_seen k.told k.held k.faults) in
+    let seen = seen_by g.E.Edges g.E.Source.ByteSource g.E.Sink.ByteSink in
     let names = merged_names (g.S.Supply.feeds c.args.supply.now c.args.spec.now) in
     let gated = source_seen (ghosts g.row.S-Source g.S.Source.ByteSource g.S.Source.ByteSource-dict) in
     let same = c.reverse.ensures.len in
@@ -23,10 +20,7 @@ loop-gated-init g c =
 
 pub loop-gated-preserved : goal.loop-gated-preserved
 loop-gated-preserved g c =
-    let e = g.E.Edges in
-    let s = g.E.Source.ByteSource in
-    let k = g.E.Sink.ByteSink in
-    let seen = edges_seen e.told e.named e.asked e.faults e.sources_back e.sinks_back (source_seen s) (sink_seen k.told k.held k.faults) in
+    let seen = seen_by g.E.Edges g.E.Source.ByteSource g.E.Sink.ByteSink in
     let feed = g.S.Supply.feeds c.args.supply.now c.args.spec.now in
     let gated = source_seen (ghosts g.row.S-Source g.S.Source.ByteSource g.S.Source.ByteSource-dict) in
     let x = c.loop-gated.invariant in
@@ -43,10 +37,7 @@ loop-gated-preserved g c =
 
 pub returns-in-Err-clause-in_part : goal.returns-in-Err-clause-in_part
 returns-in-Err-clause-in_part g c =
-    let e = g.E.Edges in
-    let s = g.E.Source.ByteSource in
-    let k = g.E.Sink.ByteSink in
-    let seen = edges_seen e.told e.named e.asked e.faults e.sources_back e.sinks_back (source_seen s) (sink_seen k.told k.held k.faults) in
+    let seen = seen_by g.E.Edges g.E.Source.ByteSource g.E.Sink.ByteSink in
     let feed = g.S.Supply.feeds c.args.supply.now c.args.spec.now in
     let gated = source_seen (ghosts g.row.S-Source g.S.Source.ByteSource g.S.Source.ByteSource-dict) in
     let all = map gated c.args.sources.items in
@@ -55,10 +46,7 @@ returns-in-Err-clause-in_part g c =
 
 pub returns-clause-back : goal.returns-clause-back
 returns-clause-back g c =
-    let e = g.E.Edges in
-    let s = g.E.Source.ByteSource in
-    let k = g.E.Sink.ByteSink in
-    let seen = edges_seen e.told e.named e.asked e.faults e.sources_back e.sinks_back (source_seen s) (sink_seen k.told k.held k.faults) in
+    let seen = seen_by g.E.Edges g.E.Source.ByteSource g.E.Sink.ByteSink in
     let feed = g.S.Supply.feeds c.args.supply.now c.args.spec.now in
     let gated = source_seen (ghosts g.row.S-Source g.S.Source.ByteSource g.S.Source.ByteSource-dict) in
     let all = map gated c.args.sources.items in

@@ -1,9 +1,9 @@
 use Rattle.std.proofs.Common.{◌∙◌, subst, map}
 use Rattle.rate_gate.specs.contracts.source.GatedSourceByteSource.TheImpl.{ghosts}
-use Rattle.stage_bodies.specs.Seen.{source_seen, sink_seen}
-use Rattle.edge_names.specs.Seen.{edges_seen}
+use Rattle.stage_bodies.specs.Seen.{source_seen}
 use Rattle.edge_names.specs.Supplies.{merged_names, under_names}
 use Rattle.edge_names.specs.Returned.{IsBackUpTo}
+use Rattle.edge_names.proofs.Seeing.{seen_by}
 use Rattle.edge_names.proofs.Merges.{merge_is, up_to_either}
 use Rattle.edge_names.proofs.merging.merge_of.Goals as goal
 
@@ -14,10 +14,7 @@ returns-in-Ok-clause-merge g c =
 
 pub returns-in-Err-clause-returned : goal.returns-in-Err-clause-returned
 returns-in-Err-clause-returned g c =
-    let e = g.E.Edges in
-    let s = g.E.Source.ByteSource in
-    let k = g.E.Sink.ByteSink in
-    let seen = edges_seen e.told e.named e.asked e.faults e.sources_back e.sinks_back (source_seen s) (sink_seen k.told k.held k.faults) in
+    let seen = seen_by g.E.Edges g.E.Source.ByteSource g.E.Sink.ByteSink in
     let gated = source_seen (ghosts g.row.S-Source g.S.Source.ByteSource g.S.Source.ByteSource-dict) in
     let names = merged_names (g.S.Supply.feeds c.args.supply.now c.args.spec.now) in
     let same = c.into_vec.ensures ∙ c.in-Err.ensures.err ∙ c.from_vec.ensures in

@@ -1,11 +1,11 @@
 use Rattle.std.proofs.Common.{◌≡◌, ap, sym, ◌∙◌, subst}
 use Rattle.std.specs.Prelude.{IsSome, option_map}
-use Rattle.stage_bodies.specs.Seen.{body_at, source_seen, sink_seen}
+use Rattle.stage_bodies.specs.Seen.{body_at}
 use Rattle.rate_gate.specs.Gate.{pace_of}
-use Rattle.edge_names.specs.Seen.{edges_seen}
 use Rattle.edge_names.specs.Gates.{pace_by, pace_of_stage}
 use Rattle.edge_names.specs.Opened.{OpensOne}
 use Rattle.edge_names.specs.Supplies.{fed, supplied_by}
+use Rattle.edge_names.proofs.Seeing.{seen_by}
 use Rattle.edge_names.proofs.Supplying.{some_fed}
 use Rattle.edge_names.proofs.opening.open_stage.Goals as goal
 
@@ -18,10 +18,7 @@ supply_into-requires-clause-home g c κs within = λ some.
 
 pub returns-in-Producer-clause-opens : goal.returns-in-Producer-clause-opens
 returns-in-Producer-clause-opens g c =
-    let e = g.E.Edges in
-    let s = g.E.Source.ByteSource in
-    let k = g.E.Sink.ByteSink in
-    let seen = edges_seen e.told e.named e.asked e.faults e.sources_back e.sinks_back (source_seen s) (sink_seen k.told k.held k.faults) in
+    let seen = seen_by g.E.Edges g.E.Source.ByteSource g.E.Sink.ByteSink in
     let look = g.B.Works.look in
     let old = seen c.args.edges.now in
     let new = seen c.supply_into.new.edges in

@@ -1,18 +1,15 @@
 use Rattle.std.proofs.Common.{◌≡◌, length, take}
-use Rattle.stage_bodies.specs.Seen.{body_at, source_seen, sink_seen}
-use Rattle.edge_names.specs.Seen.{edges_seen}
+use Rattle.stage_bodies.specs.Seen.{body_at}
 use Rattle.edge_names.specs.Supplies.{at_paces}
 use Rattle.edge_names.specs.Opened.{Asks, AreHome, AreOpened, calls_of}
 use Rattle.edge_names.specs.Returned.{KeepsCallbacks}
+use Rattle.edge_names.proofs.Seeing.{seen_by}
 use Rattle.edge_names.proofs.opening.open_stages.Given as goal
 
 abbrev pub invariant-loop-spec : goal.invariant-loop-spec
 invariant-loop-spec g l =
     let feeds = at_paces l.fn.topology (g.S.Supply.feeds l.fn.supply) in
-    let e = g.E.Edges in
-    let s = g.E.Source.ByteSource in
-    let k = g.E.Sink.ByteSink in
-    let seen = edges_seen e.told e.named e.asked e.faults e.sources_back e.sinks_back (source_seen s) (sink_seen k.told k.held k.faults) in
+    let seen = seen_by g.E.Edges g.E.Source.ByteSource g.E.Sink.ByteSink in
     record {
       len : length l.bodies.items ≡ length l.fn.bodies.items;
       home : AreHome feeds l.fn.topology (body_at g.B.Works.look l.bodies.items);

@@ -1,20 +1,17 @@
 use Rattle.std.proofs.Common.{subst, map, ap, arith}
 use Rattle.std.proofs.lemmas.List.{length-map}
 use Rattle.rate_gate.specs.contracts.source.GatedSourceByteSource.TheImpl.{ghosts}
-use Rattle.stage_bodies.specs.Seen.{Merged as MergedSeen, body_at, merge_seen, source_seen, sink_seen}
-use Rattle.edge_names.specs.Seen.{edges_seen}
+use Rattle.stage_bodies.specs.Seen.{Merged as MergedSeen, body_at, merge_seen, source_seen}
 use Rattle.edge_names.specs.Supplies.{feed_calls, merged_names}
 use Rattle.edge_names.specs.Opened.{Asks}
+use Rattle.edge_names.proofs.Seeing.{seen_by}
 use Rattle.edge_names.proofs.Merges.{give_length, is_merge, merge_cut, merge_given}
 use Rattle.edge_names.proofs.Supplying.{feed_undone, merge_ok, merge_opened, merge_short}
 use Rattle.edge_names.proofs.opening.supply_merge_into.Goals as goal
 
 pub merge_of-requires-clause-some : goal.merge_of-requires-clause-some
 merge_of-requires-clause-some g c κs within =
-    let e = g.E.Edges in
-    let s = g.E.Source.ByteSource in
-    let k = g.E.Sink.ByteSink in
-    let seen = edges_seen e.told e.named e.asked e.faults e.sources_back e.sinks_back (source_seen s) (sink_seen k.told k.held k.faults) in
+    let seen = seen_by g.E.Edges g.E.Source.ByteSource g.E.Sink.ByteSink in
     let feed = g.S.Supply.feeds c.args.supply.now c.args.spec.now in
     let gated = source_seen (ghosts g.row.S-Source g.S.Source.ByteSource g.S.Source.ByteSource-dict) in
     let merge = is_merge feed c.args.count c.requires.merged in
@@ -25,10 +22,7 @@ merge_of-requires-clause-some g c κs within =
 
 pub merge_of-requires-clause-few : goal.merge_of-requires-clause-few
 merge_of-requires-clause-few g c κs within =
-    let e = g.E.Edges in
-    let s = g.E.Source.ByteSource in
-    let k = g.E.Sink.ByteSink in
-    let seen = edges_seen e.told e.named e.asked e.faults e.sources_back e.sinks_back (source_seen s) (sink_seen k.told k.held k.faults) in
+    let seen = seen_by g.E.Edges g.E.Source.ByteSource g.E.Sink.ByteSink in
     let feed = g.S.Supply.feeds c.args.supply.now c.args.spec.now in
     let gated = source_seen (ghosts g.row.S-Source g.S.Source.ByteSource g.S.Source.ByteSource-dict) in
     let merge = is_merge feed c.args.count c.requires.merged in
@@ -39,10 +33,7 @@ merge_of-requires-clause-few g c κs within =
 
 pub returns-in-Ok-merge_of-clause-opens : goal.returns-in-Ok-merge_of-clause-opens
 returns-in-Ok-merge_of-clause-opens g c = λ pace.
-    let e = g.E.Edges in
-    let s = g.E.Source.ByteSource in
-    let k = g.E.Sink.ByteSink in
-    let seen = edges_seen e.told e.named e.asked e.faults e.sources_back e.sinks_back (source_seen s) (sink_seen k.told k.held k.faults) in
+    let seen = seen_by g.E.Edges g.E.Source.ByteSource g.E.Sink.ByteSink in
     let feed = g.S.Supply.feeds c.args.supply.now c.args.spec.now in
     let row = ghosts g.row.S-Source g.S.Source.ByteSource g.S.Source.ByteSource-dict in
     let names = merged_names feed in
@@ -61,10 +52,7 @@ returns-in-Ok-merge_of-clause-opens g c = λ pace.
 
 pub returns-in-Err-merge_of-clause-opens : goal.returns-in-Err-merge_of-clause-opens
 returns-in-Err-merge_of-clause-opens g c = λ pace.
-    let e = g.E.Edges in
-    let s = g.E.Source.ByteSource in
-    let k = g.E.Sink.ByteSink in
-    let seen = edges_seen e.told e.named e.asked e.faults e.sources_back e.sinks_back (source_seen s) (sink_seen k.told k.held k.faults) in
+    let seen = seen_by g.E.Edges g.E.Source.ByteSource g.E.Sink.ByteSink in
     let feed = g.S.Supply.feeds c.args.supply.now c.args.spec.now in
     let row = ghosts g.row.S-Source g.S.Source.ByteSource g.S.Source.ByteSource-dict in
     let names = merged_names feed in
@@ -78,9 +66,6 @@ returns-in-Err-merge_of-clause-opens g c = λ pace.
 
 pub returns-in-Err-clause-opens : goal.returns-in-Err-clause-opens
 returns-in-Err-clause-opens g c = λ pace.
-    let e = g.E.Edges in
-    let s = g.E.Source.ByteSource in
-    let k = g.E.Sink.ByteSink in
-    let seen = edges_seen e.told e.named e.asked e.faults e.sources_back e.sinks_back (source_seen s) (sink_seen k.told k.held k.faults) in
+    let seen = seen_by g.E.Edges g.E.Source.ByteSource g.E.Sink.ByteSink in
     let table = body_at g.B.Works.look c.args.bodies.now.items in
     feed_undone (Unit {0}) c.in-Err.unopened pace (g.S.Supply.feeds c.args.supply.now c.args.spec.now) c.args.at (seen c.args.edges.now) (seen c.open_streams.new.edges) table table c.in-Err.ensures.failed c.in-Err.ensures.cut_off

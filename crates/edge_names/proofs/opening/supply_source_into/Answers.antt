@@ -1,21 +1,18 @@
 use Rattle.std.proofs.Common.{[], ap, subst}
 use Rattle.std.specs.Prelude.{Some, None, OnOk, option_map}
-use Rattle.stage_bodies.specs.Seen.{OneSource, body_at, source_seen, sink_seen}
+use Rattle.stage_bodies.specs.Seen.{OneSource, body_at, source_seen}
 use Rattle.rate_gate.specs.Gate.{pace_of}
-use Rattle.edge_names.specs.Seen.{edges_seen}
 use Rattle.edge_names.specs.Supplies.{feed_at, feed_calls, given_back}
 use Rattle.edge_names.specs.Opened.{Asks, FailsToOpen, IfFailed, IsSupplied}
 use Rattle.edge_names.specs.Returned.{GivesBack}
+use Rattle.edge_names.proofs.Seeing.{seen_by}
 use Rattle.edge_names.proofs.Merges.{alone}
 use Rattle.edge_names.proofs.Supplying.{feed_cut_off, feed_none, feed_not, feed_opened}
 use Rattle.edge_names.proofs.opening.supply_source_into.Goals as goal
 
 pub returns-in-Ok-clause-opens : goal.returns-in-Ok-clause-opens
 returns-in-Ok-clause-opens g c =
-    let e = g.E.Edges in
-    let s = g.E.Source.ByteSource in
-    let k = g.E.Sink.ByteSink in
-    let seen = edges_seen e.told e.named e.asked e.faults e.sources_back e.sinks_back (source_seen s) (sink_seen k.told k.held k.faults) in
+    let seen = seen_by g.E.Edges g.E.Source.ByteSource g.E.Sink.ByteSink in
     let table = body_at g.B.Works.look c.args.bodies.now.items in
     let now = body_at g.B.Works.look c.set_source.new.bodies.items in
     let feed = g.S.Supply.feeds c.args.supply.now c.args.spec.now in
@@ -29,10 +26,7 @@ returns-in-Ok-clause-opens g c =
 
 pub returns-in-Ok-None-clause-opens : goal.returns-in-Ok-None-clause-opens
 returns-in-Ok-None-clause-opens g c =
-    let e = g.E.Edges in
-    let s = g.E.Source.ByteSource in
-    let k = g.E.Sink.ByteSink in
-    let seen = edges_seen e.told e.named e.asked e.faults e.sources_back e.sinks_back (source_seen s) (sink_seen k.told k.held k.faults) in
+    let seen = seen_by g.E.Edges g.E.Source.ByteSource g.E.Sink.ByteSink in
     let table = body_at g.B.Works.look c.args.bodies.now.items in
     let feed = g.S.Supply.feeds c.args.supply.now c.args.spec.now in
     let single = alone feed 0 c.requires.single in
@@ -44,10 +38,7 @@ returns-in-Ok-None-clause-opens g c =
 
 pub returns-in-Err-gated_lines-clause-opens : goal.returns-in-Err-gated_lines-clause-opens
 returns-in-Err-gated_lines-clause-opens g c =
-    let e = g.E.Edges in
-    let s = g.E.Source.ByteSource in
-    let k = g.E.Sink.ByteSink in
-    let seen = edges_seen e.told e.named e.asked e.faults e.sources_back e.sinks_back (source_seen s) (sink_seen k.told k.held k.faults) in
+    let seen = seen_by g.E.Edges g.E.Source.ByteSource g.E.Sink.ByteSink in
     let feed = g.S.Supply.feeds c.args.supply.now c.args.spec.now in
     let single = alone feed 0 c.requires.single in
     let source = source_seen g.S.Source.ByteSource in
@@ -61,14 +52,10 @@ returns-in-Err-gated_lines-clause-opens g c =
 
 pub returns-in-Err-clause-opens : goal.returns-in-Err-clause-opens
 returns-in-Err-clause-opens g c =
-    let e = g.E.Edges in
-    let s = g.E.Source.ByteSource in
-    let k = g.E.Sink.ByteSink in
-    let seen = edges_seen e.told e.named e.asked e.faults e.sources_back e.sinks_back (source_seen s) (sink_seen k.told k.held k.faults) in
-    let table = body_at g.B.Works.look c.args.bodies.now.items in
     let feed = g.S.Supply.feeds c.args.supply.now c.args.spec.now in
-    let single = alone feed 0 c.requires.single in
+    let seen = seen_by g.E.Edges g.E.Source.ByteSource g.E.Sink.ByteSink in
     let old = seen c.args.edges.now in
     let new = seen c.supply.new.edges in
-    let failed = subst (λ f. IfFailed c.in-Err.unopened (λ n. FailsToOpen f n old new)) single c.in-Err.ensures.failed in
+    let failed = subst (λ f. IfFailed c.in-Err.unopened (λ n. FailsToOpen f n old new)) (alone feed 0 c.requires.single) c.in-Err.ensures.failed in
+    let table = body_at g.B.Works.look c.args.bodies.now.items in
     feed_not (Unit {0}) c.in-Err.unopened (option_map pace_of c.args.gate) feed c.args.at old new table table failed c.in-Err.ensures.cut_off

@@ -1,4 +1,3 @@
-use Rattle.std.proofs.Common.{◌≡◌, ◌++◌}
 use Rattle.std.specs.Prelude.{replicate}
 use Rattle.pipe_types.specs.declared.message.Outcome.TheVariants.{Successful}
 use Rattle.journal_texts.specs.Words.{list_text}
@@ -7,4 +6,4 @@ use Rattle.journal_texts.proofs.items.put_successes.Given as goal
 
 -- the items so far
 abbrev pub invariant-loop-at : goal.invariant-loop-at
-invariant-loop-at l = l.out.items ≡ l.initial.out.items ++ list_text outcome_text (replicate l.at Successful)
+invariant-loop-at g l = g.W.TextSink.puts l.fn.out l.out (list_text outcome_text (replicate l.at Successful))

@@ -1,4 +1,4 @@
-use Rattle.line_reading.proofs.Reasons.{reason_test}
+use Rattle.pipe_types.proofs.Reasons.{reason_test}
 use Rattle.line_reading.proofs.items.reason_of.Goals as goal
 
 pub returns : goal.returns

@@ -1,7 +1,7 @@
 use Rattle.std.proofs.Common.{◌+◌, ◌++◌, drop, ap, sym, ◌∙◌, append_assoc, arith}
 use Rattle.pipe_types.specs.Handlers.{is_successful, lines_where}
 use Rattle.own_handler.specs.Judged.{line_where}
-use Rattle.own_handler.proofs.Lines.{lines_next}
+use Rattle.pipe_types.proofs.Lines.{lines_next}
 use Rattle.own_handler.proofs.judge.lines_of.Goals as goal
 
 pub loop-i-preserved : goal.loop-i-preserved

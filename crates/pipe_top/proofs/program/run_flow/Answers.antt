@@ -12,19 +12,15 @@ run_or_refuse-requires-clause-fed g c κs lives = names_feed _ c.in-Ok.topology 
 pub run_or_refuse-requires-clause-unmerged : goal.run_or_refuse-requires-clause-unmerged
 run_or_refuse-requires-clause-unmerged g c κs lives = named_unmerged c.in-Ok.topology _ c.as_it_stands-supply.ensures
 
-pub returns : goal.returns
-returns g c =
+pub returns-clause-came : goal.returns-clause-came
+returns-clause-came g c =
     let r = c.run_or_refuse in
     let w = c.args.words in
-    record {
-      came = came_by_flow _ _ _ w.source.now w.prefix.now c.in-Ok.topology r.result.topology r.result.journal.steps r.result.verdict c.in-Ok.ensures.value
-          (r.ensures.comes Named (record { is = ap by_name c.as_it_stands-supply.ensures; few = tt }));
-    }
+    came_by_flow _ _ _ w.source.now w.prefix.now c.in-Ok.topology r.result.topology r.result.journal.steps r.result.verdict c.in-Ok.ensures.value
+    (r.ensures.comes Named (record { is = ap by_name c.as_it_stands-supply.ensures; few = tt }))
 
-pub returns-in_default : goal.returns-in_default
-returns-in_default g c =
+pub returns-in_default-clause-came : goal.returns-in_default-clause-came
+returns-in_default-clause-came g c =
     let r = c.refused in
-    record {
-      came = came_to_nothing _ _ _ _ r.result.topology r.result.journal.steps r.result.verdict r.ensures.verdict r.ensures.no_run
-          (record { sources = refl; sinks = refl; clock = rw r.ensures.same_clock refl; boxes = rw r.ensures.same_boxes refl }) refl refl;
-    }
+    came_to_nothing _ _ _ _ r.result.topology r.result.journal.steps r.result.verdict r.ensures.verdict r.ensures.no_run
+    (record { sources = refl; sinks = refl; clock = rw r.ensures.same_clock refl; boxes = rw r.ensures.same_boxes refl }) refl refl

@@ -9,21 +9,17 @@ run_or_refuse-requires-clause-fed g c κs lives s spec found is = refl
 pub run_or_refuse-requires-clause-unmerged : goal.run_or_refuse-requires-clause-unmerged
 run_or_refuse-requires-clause-unmerged g c κs lives some spec = refl
 
-pub returns-in-Ok : goal.returns-in-Ok
-returns-in-Ok g c =
+pub returns-in-Ok-clause-came : goal.returns-in-Ok-clause-came
+returns-in-Ok-clause-came g c =
     let r = c.run_or_refuse in
     let w = c.args.words in
     let made = c.new-supply.ensures in
-    record {
-      came = gen_came _ _ _ _ w.seed w.count w.topology.now c.in-Ok.topology r.result.topology r.result.journal.steps r.result.verdict c.in-Ok.ensures
-          (r.ensures.comes (MadeFrom w.seed w.count) (record { is = rw (made.seed, made.count, made.producers, c.producers.ensures.number) refl; few = omega arith }));
-    }
+    gen_came _ _ _ _ w.seed w.count w.topology.now c.in-Ok.topology r.result.topology r.result.journal.steps r.result.verdict c.in-Ok.ensures
+    (r.ensures.comes (MadeFrom w.seed w.count) (record { is = rw (made.seed, made.count, made.producers, c.producers.ensures.number) refl; few = omega arith }))
 
-pub returns-in-Err : goal.returns-in-Err
-returns-in-Err g c =
+pub returns-in-Err-clause-came : goal.returns-in-Err-clause-came
+returns-in-Err-clause-came g c =
     let r = c.refused in
     let w = c.args.words in
-    record {
-      came = gen_unread _ _ _ w.seed w.count w.topology.now c.in-Err.refusal r.result.topology r.result.journal.steps r.result.verdict c.in-Err.ensures r.ensures.verdict r.ensures.no_run
-          (rw r.ensures.same_clock refl) (rw r.ensures.same_boxes refl);
-    }
+    gen_unread _ _ _ w.seed w.count w.topology.now c.in-Err.refusal r.result.topology r.result.journal.steps r.result.verdict c.in-Err.ensures r.ensures.verdict r.ensures.no_run
+    (rw r.ensures.same_clock refl) (rw r.ensures.same_boxes refl)

@@ -10,18 +10,14 @@ run_supplied-requires-clause-suffices g c =
     let none = rw (c.boxes_in.ensures, c.as_slice.ensures.value) at (sym c.refusal_of.ensures.refusal ∙ c.in-None.is) in
     λ κs lives. enough (kinds_of g.C.Boxed.seen c.args.stock.items) c.args.topology none
 
-pub returns-in-Some : goal.returns-in-Some
-returns-in-Some g c =
+pub returns-in-Some-clause-comes : goal.returns-in-Some-clause-comes
+returns-in-Some-clause-comes g c =
     let r = c.refused in
     let why = rw (c.boxes_in.ensures, c.as_slice.ensures.value) at (sym c.refusal_of.ensures.refusal ∙ c.in-Some.is) in
-    record {
-      comes = λ feeding fed. refused_topology _ _ c.args.shows c.args.live feeding c.args.topology (shortage_of c.args.topology (boxes_in (kinds_of g.C.Boxed.seen c.args.stock.items))) c.in-Some.refusal r.result.topology r.result.journal.steps r.result.verdict why r.ensures.verdict r.ensures.no_run
-          (record { sources = refl; sinks = refl; clock = rw r.ensures.same_clock refl; boxes = rw r.ensures.same_boxes refl }) refl refl;
-    }
+    λ feeding fed. refused_topology _ _ c.args.shows c.args.live feeding c.args.topology (shortage_of c.args.topology (boxes_in (kinds_of g.C.Boxed.seen c.args.stock.items))) c.in-Some.refusal r.result.topology r.result.journal.steps r.result.verdict why r.ensures.verdict r.ensures.no_run
+    (record { sources = refl; sinks = refl; clock = rw r.ensures.same_clock refl; boxes = rw r.ensures.same_boxes refl }) refl refl
 
-pub returns-in-None : goal.returns-in-None
-returns-in-None g c =
+pub returns-in-None-clause-comes : goal.returns-in-None-clause-comes
+returns-in-None-clause-comes g c =
     let none = rw (c.boxes_in.ensures, c.as_slice.ensures.value) at (sym c.refusal_of.ensures.refusal ∙ c.in-None.is) in
-    record {
-      comes = λ feeding fed. rw (case_is (boxes_in (kinds_of g.C.Boxed.seen c.args.stock.items)) c.args.shows c.args.live feeding c.args.topology none) (c.run_supplied.ensures.comes feeding fed);
-    }
+    λ feeding fed. rw (case_is (boxes_in (kinds_of g.C.Boxed.seen c.args.stock.items)) c.args.shows c.args.live feeding c.args.topology none) (c.run_supplied.ensures.comes feeding fed)

@@ -1,7 +1,8 @@
 use Rattle.std.proofs.Common.{◌+◌, ◌++◌, drop, ap, sym, ◌∙◌, append_assoc, arith}
 use Rattle.pipe_types.specs.Handlers.{lines_where}
 use Rattle.plain_handlers.specs.Tests.{outcome_test, line_where}
-use Rattle.plain_handlers.proofs.Batches.{lines_next, lines_end}
+use Rattle.pipe_types.proofs.Lines.{lines_next}
+use Rattle.plain_handlers.proofs.Batches.{lines_end}
 use Rattle.plain_handlers.proofs.ends.lines_of.Goals as goal
 
 pub returns-then-outcomes-i : goal.returns-then-outcomes-i

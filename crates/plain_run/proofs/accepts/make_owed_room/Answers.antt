@@ -20,4 +20,4 @@ returns-in_err-make_room-clause-holds c = roomy_holds c.args.core.now c.make_roo
 pub returns-clause-holds : goal.returns-clause-holds
 returns-clause-holds c =
     still_holds (record c.args.core.now { inboxes = c.make_room.new.inboxes }) c.reserve.new.self
-    (roomy_holds c.args.core.now c.make_room.new.inboxes c.make_room.ensures.same c.make_room.ensures.len c.requires.holds) c.reserve.ensures.same_steps c.reserve.ensures.spare
+    (roomy_holds c.args.core.now c.make_room.new.inboxes c.make_room.ensures.same c.make_room.ensures.len c.requires.holds) c.reserve.ensures.same_steps c.reserve.ensures.spare c.reserve.ensures.same_acked

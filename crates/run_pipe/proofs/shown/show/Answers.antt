@@ -4,7 +4,7 @@ use Rattle.run_pipe.proofs.Watching.{watch_itself, seen_before, seen_all, seen_p
 use Rattle.run_pipe.proofs.shown.show.Goals as goal
 
 pub show-requires-clause-suits : goal.show-requires-clause-suits
-show-requires-clause-suits g c = (c.args.core.now.topology, c.requires.suits, rw c.journal.ensures c.requires.stands.holds.legal)
+show-requires-clause-suits g c = (c.args.core.now.topology, c.requires.suits, rw c.journal.ensures c.requires.stands.holds.legal, rw c.journal.ensures c.requires.stands.holds.log.rows)
 
 pub show-requires-clause-knows : goal.show-requires-clause-knows
 show-requires-clause-knows g c = rw c.journal.ensures c.requires.part

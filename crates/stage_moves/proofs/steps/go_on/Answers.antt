@@ -3,7 +3,20 @@ use Rattle.stage_bodies.specs.Seen.{body_at}
 use Rattle.body_laws.specs.Ready.{Ready}
 use Rattle.stage_moves.specs.Going.{Advances}
 use Rattle.stage_moves.proofs.Goings.{advances_same, advances_then}
+use Rattle.stage_moves.proofs.steps.go_on.Given.{Over}
+use Rattle.stage_moves.proofs.steps.go_on.Goals.{After-make}
 use Rattle.stage_moves.proofs.steps.go_on.Goals as goal
+
+-- the steps so far, and one more
+made : (g : Over) (c : After-make g)
+    → Advances c.args.core.now.topology c.args.core.now.journal.steps (body_at g.B.Works.look c.args.bodies.now.items) c.make.new.core.journal.steps (body_at g.B.Works.look c.make.new.bodies.items)
+made g c =
+    let here = c.loop-step.core.journal.steps in
+    let there = c.make.new.core.journal.steps in
+    let home = body_at g.B.Works.look c.loop-step.bodies.items in
+    let back = body_at g.B.Works.look c.make.new.bodies.items in
+    advances_then c.args.core.now.topology c.args.core.now.journal.steps here there (body_at g.B.Works.look c.args.bodies.now.items) home back c.loop-step.invariant.advances
+    (subst (λ o. Advances o here home there back) c.loop-step.invariant.topology c.make.ensures.advances)
 
 pub loop-step-init : goal.loop-step-init
 loop-step-init g c = record {
@@ -19,34 +32,12 @@ make-requires-clause-ready g c =
     subst (λ o. Ready o c.loop-step.core.journal.steps (body_at g.B.Works.look c.loop-step.bodies.items)) (sym x.topology) x.advances.ready
 
 pub loop-step-preserved : goal.loop-step-preserved
-loop-step-preserved g c =
-    let look = g.B.Works.look in
-    let x = c.loop-step.invariant in
-    let e = c.make.ensures in
-    let t = c.args.core.now.topology in
-    let a = c.args.core.now.journal.steps in
-    let b = c.loop-step.core.journal.steps in
-    let d = c.make.new.core.journal.steps in
-    let home = body_at look c.args.bodies.now.items in
-    let here = body_at look c.loop-step.bodies.items in
-    let back = body_at look c.make.new.bodies.items in
-    record {
-      stands = e.stands;
-      topology = e.topology ∙ x.topology;
-      len = e.len ∙ x.len;
-      advances = advances_then t a b d home here back x.advances (subst (λ o. Advances o b here d back) x.topology e.advances);
-    }
+loop-step-preserved g c = record {
+  stands = c.make.ensures.stands;
+  topology = c.make.ensures.topology ∙ c.loop-step.invariant.topology;
+  len = c.make.ensures.len ∙ c.loop-step.invariant.len;
+  advances = made g (goal.at.loop-step-preserved g c).After-make;
+}
 
 pub returns-in_err-make-in-Step-clause-advances : goal.returns-in_err-make-in-Step-clause-advances
-returns-in_err-make-in-Step-clause-advances g c =
-    let look = g.B.Works.look in
-    let x = c.loop-step.invariant in
-    let e = c.make.ensures in
-    let t = c.args.core.now.topology in
-    let a = c.args.core.now.journal.steps in
-    let b = c.loop-step.core.journal.steps in
-    let d = c.make.new.core.journal.steps in
-    let home = body_at look c.args.bodies.now.items in
-    let here = body_at look c.loop-step.bodies.items in
-    let back = body_at look c.make.new.bodies.items in
-    advances_then t a b d home here back x.advances (subst (λ o. Advances o b here d back) x.topology e.advances)
+returns-in_err-make-in-Step-clause-advances g c = made g (goal.at.returns-in_err-make-in-Step-clause-advances g c).After-make

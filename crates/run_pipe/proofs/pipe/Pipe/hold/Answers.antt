@@ -1,42 +1,47 @@
-use Rattle.std.proofs.Common.{◌∙◌, refl, sym, ap, subst}
-use Rattle.std.specs.Prelude.{option_map, IsSome}
-use Rattle.stage_bodies.specs.Seen.{line_seen}
-use Rattle.stage_holds.specs.Clocks.{clock_seen}
-use Rattle.run_pipe.specs.Seen.{PipeState, state_of}
-use Rattle.run_pipe.proofs.Views.{fields_of, state_is}
-use Rattle.run_pipe.proofs.Homing.{home_first, brings_at, rounded_at, going_by}
-use Rattle.run_pipe.proofs.Going.{held_by, holds_round, holds_whole}
-use Rattle.run_pipe.proofs.CutShort.{shown_round, shown_whole, seen_by, part_of}
-use Rattle.run_pipe.specs.Rounds.{round_of, end_of}
+use Rattle.std.proofs.Common.{◌≡◌, ◌∙◌, refl, sym, subst}
+use Rattle.std.specs.Prelude.{IsSome}
 use Rattle.pipe_types.specs.declared.topology.Topology.{Topology}
 use Rattle.run_pipe.specs.Ends.{HasMemory}
+use Rattle.run_pipe.specs.Rounds.{round_of, end_of}
+use Rattle.run_pipe.specs.Seen.{PipeSeen, PipeState, state_of}
+use Rattle.run_pipe.proofs.Views.{pipe_by, pipe_is, made_of}
+use Rattle.run_pipe.proofs.Homing.{Brings, home_first, brings_at, rounded_at, going_by}
+use Rattle.run_pipe.proofs.Going.{Held, held_by, holds_round, holds_whole}
+use Rattle.run_pipe.proofs.CutShort.{shown_round, shown_whole, seen_by, part_of}
+use Rattle.run_pipe.proofs.pipe.Pipe.hold.Given.{Over}
+use Rattle.run_pipe.proofs.pipe.Pipe.hold.Goals.{After-is_some, After-told-round}
 use Rattle.run_pipe.proofs.pipe.Pipe.hold.Goals as goal
 
+-- the pipe before the hold, and after it
+abbrev old : (g : Over) → After-is_some g → PipeState
+old g c = let i = c.self.inside in pipe_by g.B.Works.look g.S.ByteSource g.C.Clock g.W.Shown i.core i.bodies.items i.control i.clock i.watch i.end
+
+abbrev mid : (g : Over) → After-told-round g → PipeState
+mid g c = let n = c.hold-came.new in pipe_by g.B.Works.look g.S.ByteSource g.C.Clock g.W.Shown n.core n.bodies.items n.control n.clock c.show-shown.new.watch (end_of c.hold-came.result)
+
+-- what was brought to it
+same : (g : Over) (c : After-is_some g) → state_of c.args.self.now ≡ old g c
+same g c = let i = c.self.inside in made_of g.B.Works.look g.S.ByteSource g.C.Clock g.W.Shown _ i.core i.bodies.items i.control i.clock i.watch i.end c.self.view_is
+
+brings : (g : Over) (c : After-is_some g) → Brings g.B.Works.look c.args.brought (old g c)
+brings g c =
+    let w = c.self.invariant in
+    let h = c.requires.home in
+    brings_at g.B.Works.look c.args.brought _ (old g c) (same g c) w.stands.holds.sound w.stands.holds.legal h.0 h.1 h.2 h.3
+
+-- what the hold says
+held : (g : Over) (c : After-told-round g) → Held g.B.Works.look c.args.brought c.hold-came.result c.self.inside.core.topology (old g (goal.at.After-told-round g c).After-is_some) (mid g c)
+held g c =
+    let e = c.hold-came.ensures in
+    held_by g.B.Works.look c.args.brought c.hold-came.result (old g (goal.at.After-told-round g c).After-is_some) (mid g c) c.self.invariant.stands.holds.sound e.stands.holds.legal e.stands.unowed e.holds e.slept
+
 pub take_home-requires-clause-ended : goal.take_home-requires-clause-ended
-take_home-requires-clause-ended g c =
-    let s = g.S.ByteSource in
-    let look = g.B.Works.look in
-    let line = line_seen s in
-    let time = clock_seen g.C.Clock.latest g.C.Clock.readings g.C.Clock.pauses in
-    let view = g.W.Shown.sight in
-    let i = c.self.inside in
-    let same = sym (ap state_of c.self.view_is) ∙ state_is look i.core.topology i.core.journal.steps i.bodies.items (option_map line i.control) (time i.clock) (view i.watch) i.end in
-    subst (λ (p : PipeState). IsSome p.end) (sym same) (sym c.is_some.ensures ∙ c.if-is_some.true)
+take_home-requires-clause-ended g c = subst (λ (p : PipeSeen). IsSome p.end) c.self.view_is (sym c.is_some.ensures ∙ c.if-is_some.true)
 
 pub hold-came-requires-clause-brought : goal.hold-came-requires-clause-brought
 hold-came-requires-clause-brought g c =
-    let s = g.S.ByteSource in
-    let look = g.B.Works.look in
-    let line = line_seen s in
-    let time = clock_seen g.C.Clock.latest g.C.Clock.readings g.C.Clock.pauses in
-    let view = g.W.Shown.sight in
-    let i = c.self.inside in
-    let old = fields_of look i.core.topology i.core.journal.steps i.bodies.items (option_map line i.control) (time i.clock) (view i.watch) i.end in
-    let same = sym (ap state_of c.self.view_is) ∙ state_is look i.core.topology i.core.journal.steps i.bodies.items (option_map line i.control) (time i.clock) (view i.watch) i.end in
-    let w = c.self.invariant in
-    let h = c.requires.home in
-    let b = brings_at look c.args.brought (state_of c.args.self.now) old same w.stands.holds.sound w.stands.holds.legal h.0 h.1 h.2 h.3 in
-    home_first look c.args.brought old b
+    let start = (goal.at.hold-came-requires-clause-brought g c).After-is_some in
+    home_first g.B.Works.look c.args.brought (old g start) (brings g start)
 
 pub show-shown-requires-clause-suits : goal.show-shown-requires-clause-suits
 show-shown-requires-clause-suits g c =
@@ -51,61 +56,35 @@ show-shown-requires-clause-part g c =
 
 pub invariant_of-self : goal.invariant_of-self
 invariant_of-self g c =
-    let s = g.S.ByteSource in
-    let look = g.B.Works.look in
-    let line = line_seen s in
-    let time = clock_seen g.C.Clock.latest g.C.Clock.readings g.C.Clock.pauses in
-    let view = g.W.Shown.sight in
-    let i = c.self.inside in
-    let old = fields_of look i.core.topology i.core.journal.steps i.bodies.items (option_map line i.control) (time i.clock) (view i.watch) i.end in
-    let same = sym (ap state_of c.self.view_is) ∙ state_is look i.core.topology i.core.journal.steps i.bodies.items (option_map line i.control) (time i.clock) (view i.watch) i.end in
-    let w = c.self.invariant in
-    let h = c.requires.home in
-    let b = brings_at look c.args.brought (state_of c.args.self.now) old same w.stands.holds.sound w.stands.holds.legal h.0 h.1 h.2 h.3 in
+    let at = goal.at.invariant_of-self g c in
     let came = c.hold-came.result in
     let e = c.hold-came.ensures in
     let n = c.hold-came.new in
-    let steps = n.core.journal.steps in
     let seen = c.show-shown.new.watch in
     let shown = c.show-shown.result in
-    let mid = fields_of look n.core.topology steps n.bodies.items (option_map line n.control) (time n.clock) (view seen) (end_of came) in
-    let held = held_by look c.args.brought came old mid w.stands.holds.sound e.stands.holds.legal e.stands.unowed e.holds e.slept in
-    let going = going_by i.end (sym c.is_some.ensures ∙ c.if-is_some.false) in
+    let going = going_by c.self.inside.end (sym c.is_some.ensures ∙ c.if-is_some.false) in
     let d = g.W.Shown in
     record {
       stands = e.stands;
-      whole = shown_whole shown mid c.told-round.result.1 c.told-round.ensures.end
-          (holds_whole look c.args.brought came old mid b held e.holds.topology e.holds.places going refl c.show-shown.ensures.kept w.whole);
-      watched = seen_by (d.suits seen) (d.knows seen) (d.sight seen).failed shown (end_of came) c.told-round.result.1 n.core.topology steps c.told-round.ensures.end c.show-shown.ensures.seen;
+      whole = shown_whole shown (mid g at.After-told-round) c.told-round.result.1 c.told-round.ensures.end
+          (holds_whole g.B.Works.look c.args.brought came (old g at.After-is_some) (mid g at.After-told-round) (brings g at.After-is_some) (held g at.After-told-round) e.holds.topology e.holds.places going refl c.show-shown.ensures.kept c.self.invariant.whole);
+      watched = seen_by (d.suits seen) (d.knows seen) (d.sight seen).failed shown (end_of came) c.told-round.result.1 n.core.topology n.core.journal.steps c.told-round.ensures.end c.show-shown.ensures.seen;
       known = c.show-shown.ensures.known;
     }
 
 pub returns : goal.returns
 returns g c =
-    let s = g.S.ByteSource in
-    let look = g.B.Works.look in
-    let line = line_seen s in
-    let time = clock_seen g.C.Clock.latest g.C.Clock.readings g.C.Clock.pauses in
-    let view = g.W.Shown.sight in
-    let i = c.self.inside in
-    let old = fields_of look i.core.topology i.core.journal.steps i.bodies.items (option_map line i.control) (time i.clock) (view i.watch) i.end in
-    let same = sym (ap state_of c.self.view_is) ∙ state_is look i.core.topology i.core.journal.steps i.bodies.items (option_map line i.control) (time i.clock) (view i.watch) i.end in
-    let w = c.self.invariant in
-    let h = c.requires.home in
-    let b = brings_at look c.args.brought (state_of c.args.self.now) old same w.stands.holds.sound w.stands.holds.legal h.0 h.1 h.2 h.3 in
+    let at = goal.at.returns g c in
+    let was = old g at.After-is_some in
+    let is = mid g at.After-told-round in
     let came = c.hold-came.result in
-    let e = c.hold-came.ensures in
     let n = c.hold-came.new in
-    let steps = n.core.journal.steps in
-    let seen = c.show-shown.new.watch in
-    let shown = c.show-shown.result in
-    let mid = fields_of look n.core.topology steps n.bodies.items (option_map line n.control) (time n.clock) (view seen) (end_of came) in
-    let held = held_by look c.args.brought came old mid w.stands.holds.sound e.stands.holds.legal e.stands.unowed e.holds e.slept in
-    let going = going_by i.end (sym c.is_some.ensures ∙ c.if-is_some.false) in
+    let e = c.hold-came.ensures in
+    let going = going_by c.self.inside.end (sym c.is_some.ensures ∙ c.if-is_some.false) in
     let end = c.told-round.result.1 in
     record {
-      rounded = rounded_at look c.args.brought c.told-round.result.0 (state_of c.args.self.now) old _ (record mid { end = end }) same
-          (state_is look n.core.topology steps n.bodies.items (option_map line n.control) (time n.clock) (view seen) end)
-          (shown_round look c.args.brought old going shown (round_of came) c.told-round.result.0 mid end c.told-round.ensures.round c.told-round.ensures.end
-          (holds_round look c.args.brought came old mid b held e.holds.topology e.holds.places going refl c.show-shown.ensures.kept (round_of came) w.whole refl));
+      rounded = rounded_at g.B.Works.look c.args.brought c.told-round.result.0 _ was _ (record is { end = end }) (same g at.After-is_some)
+          (pipe_is g.B.Works.look g.S.ByteSource g.C.Clock g.W.Shown n.core n.bodies.items n.control n.clock c.show-shown.new.watch end)
+          (shown_round g.B.Works.look c.args.brought was going c.show-shown.result (round_of came) c.told-round.result.0 is end c.told-round.ensures.round c.told-round.ensures.end
+          (holds_round g.B.Works.look c.args.brought came was is (brings g at.After-is_some) (held g at.After-told-round) e.holds.topology e.holds.places going refl c.show-shown.ensures.kept (round_of came) c.self.invariant.whole refl));
     }

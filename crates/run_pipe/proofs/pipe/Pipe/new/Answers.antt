@@ -1,24 +1,16 @@
 use Rattle.std.proofs.Common.{◌≡◌, [], refl, sym, subst, None}
-use Rattle.std.specs.Prelude.{option_map}
-use Rattle.stage_bodies.specs.Seen.{line_seen}
-use Rattle.stage_holds.specs.Clocks.{clock_seen}
 use Rattle.pipe_model.specs.Begins.{BeginsWith}
 use Rattle.pipe_model.specs.History.{History}
 use Rattle.pipeline_turn.proofs.Journals.{begins_itself}
 use Rattle.run_pipe.specs.Seen.{PipeState, away_of}
 use Rattle.run_pipe.specs.Stems.{Stems}
-use Rattle.run_pipe.proofs.Views.{fields_of, state_is}
-use Rattle.run_pipe.proofs.Starts.{stems_itself, none_away, first_whole}
+use Rattle.run_pipe.proofs.Views.{pipe_by, pipe_is}
+use Rattle.run_pipe.proofs.Starts.{IsFirst, stems_itself, none_away, first_whole}
 use Rattle.run_pipe.proofs.pipe.Pipe.new.Goals as goal
 
 pub invariant_of-result : goal.invariant_of-result
 invariant_of-result g c =
-    let s = g.S.ByteSource in
-    let look = g.B.Works.look in
-    let line = line_seen s in
-    let time = clock_seen g.C.Clock.latest g.C.Clock.readings g.C.Clock.pauses in
-    let view = g.W.Shown.sight in
-    let p = fields_of look c.args.core.topology c.args.core.journal.steps c.args.bodies.items (option_map line c.args.control) (time c.args.clock) (view c.args.watch) None in
+    let p = pipe_by g.B.Works.look g.S.ByteSource g.C.Clock g.W.Shown c.args.core c.args.bodies.items c.args.control c.args.clock c.args.watch None in
     record {
       stands = c.requires.stands;
       whole = first_whole p (record { going = refl; empty = c.requires.empty; filled = c.requires.filled; fresh = c.requires.fresh });
@@ -27,32 +19,17 @@ invariant_of-result g c =
     }
 
 pub returns-clause-made : goal.returns-clause-made
-returns-clause-made g c =
-    let s = g.S.ByteSource in
-    let look = g.B.Works.look in
-    let line = line_seen s in
-    let time = clock_seen g.C.Clock.latest g.C.Clock.readings g.C.Clock.pauses in
-    let view = g.W.Shown.sight in
-    state_is look c.args.core.topology c.args.core.journal.steps c.args.bodies.items (option_map line c.args.control) (time c.args.clock) (view c.args.watch) None
+returns-clause-made g c = pipe_is g.B.Works.look g.S.ByteSource g.C.Clock g.W.Shown c.args.core c.args.bodies.items c.args.control c.args.clock c.args.watch None
 
 pub returns-clause-stems : goal.returns-clause-stems
 returns-clause-stems g c =
-    let s = g.S.ByteSource in
-    let look = g.B.Works.look in
-    let line = line_seen s in
-    let time = clock_seen g.C.Clock.latest g.C.Clock.readings g.C.Clock.pauses in
-    let view = g.W.Shown.sight in
-    let p = fields_of look c.args.core.topology c.args.core.journal.steps c.args.bodies.items (option_map line c.args.control) (time c.args.clock) (view c.args.watch) None in
-    subst (λ (q : PipeState). Stems q q) (sym (state_is look c.args.core.topology c.args.core.journal.steps c.args.bodies.items (option_map line c.args.control) (time c.args.clock) (view c.args.watch) None))
-    (stems_itself p (record { going = refl; empty = c.requires.empty; filled = c.requires.filled; fresh = c.requires.fresh }))
+    let p = pipe_by g.B.Works.look g.S.ByteSource g.C.Clock g.W.Shown c.args.core c.args.bodies.items c.args.control c.args.clock c.args.watch None in
+    let first : IsFirst p = record { going = refl; empty = c.requires.empty; filled = c.requires.filled; fresh = c.requires.fresh } in
+    subst (λ (q : PipeState). Stems q q) (sym (pipe_is g.B.Works.look g.S.ByteSource g.C.Clock g.W.Shown c.args.core c.args.bodies.items c.args.control c.args.clock c.args.watch None)) (stems_itself p first)
 
 pub returns-clause-none_away : goal.returns-clause-none_away
 returns-clause-none_away g c =
-    let s = g.S.ByteSource in
-    let look = g.B.Works.look in
-    let line = line_seen s in
-    let time = clock_seen g.C.Clock.latest g.C.Clock.readings g.C.Clock.pauses in
-    let view = g.W.Shown.sight in
-    let p = fields_of look c.args.core.topology c.args.core.journal.steps c.args.bodies.items (option_map line c.args.control) (time c.args.clock) (view c.args.watch) None in
-    subst (λ (q : PipeState). away_of q ≡ []) (sym (state_is look c.args.core.topology c.args.core.journal.steps c.args.bodies.items (option_map line c.args.control) (time c.args.clock) (view c.args.watch) None))
-    (none_away p (record { going = refl; empty = c.requires.empty; filled = c.requires.filled; fresh = c.requires.fresh }))
+    let is = pipe_is g.B.Works.look g.S.ByteSource g.C.Clock g.W.Shown c.args.core c.args.bodies.items c.args.control c.args.clock c.args.watch None in
+    subst (λ (q : PipeState). away_of q ≡ []) (sym is)
+    (none_away (pipe_by g.B.Works.look g.S.ByteSource g.C.Clock g.W.Shown c.args.core c.args.bodies.items c.args.control c.args.clock c.args.watch None)
+    (record { going = refl; empty = c.requires.empty; filled = c.requires.filled; fresh = c.requires.fresh }))

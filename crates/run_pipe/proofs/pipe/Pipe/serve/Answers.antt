@@ -1,12 +1,9 @@
-use Rattle.std.proofs.Common.{◌∙◌, sym, ap, subst}
-use Rattle.std.specs.Prelude.{option_map}
-use Rattle.stage_bodies.specs.Seen.{line_seen}
-use Rattle.stage_holds.specs.Clocks.{clock_seen}
+use Rattle.std.proofs.Common.{sym, subst}
 use Rattle.run_pipe.specs.Seen.{state_of}
 use Rattle.run_pipe.specs.Whole.{IsWhole}
 use Rattle.run_pipe.specs.Serves.{Serves}
 use Rattle.run_pipe.proofs.Serving.{served_once, served_on, served_load, served_brings}
-use Rattle.run_pipe.proofs.Views.{state_is}
+use Rattle.run_pipe.proofs.Views.{made_of}
 use Rattle.run_pipe.proofs.pipe.Pipe.serve.Goals as goal
 
 pub loop-init : goal.loop-init
@@ -31,13 +28,9 @@ hold-round-requires-in-Job g c =
 pub loop-preserved : goal.loop-preserved
 loop-preserved g c =
     let look = g.B.Works.look in
-    let line = line_seen g.S.ByteSource in
-    let time = clock_seen g.C.Clock.latest g.C.Clock.readings g.C.Clock.pauses in
-    let view = g.W.Shown.sight in
     let i = c.self.inside in
-    let same = sym (ap state_of c.self.view_is) ∙ state_is look i.core.topology i.core.journal.steps i.bodies.items (option_map line i.control) (time i.clock) (view i.watch) i.end in
     let old = state_of c.args.self.now in
     let middle = state_of c.loop.self in
     let s = subst (λ r. Serves look c.args.brought r old middle) c.in-Job.is c.loop.invariant in
     served_on look c.args.brought old middle c.in-Job.load s c.work.result c.work.ensures.post c.work.ensures.outcome c.hold-round-in-Job.result (state_of c.hold-round-in-Job.new.self) c.hold-round-in-Job.ensures.rounded
-    (subst IsWhole (sym same) c.self.invariant.whole)
+    (subst IsWhole (sym (made_of look g.S.ByteSource g.C.Clock g.W.Shown _ i.core i.bodies.items i.control i.clock i.watch i.end c.self.view_is)) c.self.invariant.whole)

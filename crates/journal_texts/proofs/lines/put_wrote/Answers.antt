@@ -1,0 +1,4 @@
+use Rattle.journal_texts.proofs.lines.put_wrote.Goals as goal
+
+pub returns : goal.returns
+returns g c = g.met.W.TextSink.together _ _ _ _ _ c.put_head.ensures c.put_ends.ensures
