@@ -52,9 +52,9 @@ fn obey<R: Threads + Wait + Sync>(
     } else if word == "own" {
         own::run_own(rt, waits, case, rest)
     } else if word == "handlers" {
-        own::run_stock(rt, waits, case, own::passing(rt.alloc(), rest)?)
+        own::run_passing(rt, waits, case, rest)
     } else if word == "plain" {
-        own::run_stock(rt, waits, case, own::plain_lines(rt.alloc(), rest)?)
+        own::run_plain_lines(rt, waits, case, rest)
     } else if word == "made" {
         made::run_made(rt, waits, case, rest)
     } else if word == "back" {

@@ -13,7 +13,6 @@ use own_callback::{LinesEnd, PlainLines, ThirdCrashes, run_lines, run_with};
 use own_handler::{OwnBox, PassAll};
 use pipe_types::bytes::Bytes;
 use rate_gate::GatedSource;
-use std::alloc::{AllocError, Global};
 use std::io;
 use std::sync::atomic::AtomicU64;
 use std::sync::{Arc, Wait};
@@ -31,31 +30,46 @@ pub fn run_own<R: Threads + Wait + Sync>(
     if count < 1 || count > 16 {
         return println!(rt; "not allowed");
     }
-    let stock = if number(case.text("meets")) > 0 {
-        meeting(rt.alloc(), case)?
+    if number(case.text("meets")) > 0 {
+        run_meeting(rt, waits, case, count)
     } else {
-        third(rt.alloc())?
-    };
+        run_third(rt, waits, case, count)
+    }
+}
+
+/// Runs one callback that crashes at its third message.
+fn run_third<R: Threads + Wait + Sync>(
+    rt: &HostRuntime,
+    waits: &R,
+    case: &Case,
+    count: u16,
+) -> io::Result<()>
+    requires least { 1 ≤ count }
+    requires most { count ≤ 16 }
+{
+    let mut stock: Vec<Handler> = Vec::new(rt.alloc());
+    stock.push(Box::new(rt.alloc(), OwnBox::new(rt.alloc(), ThirdCrashes::new()))?)?;
     run_together(rt, waits, case, count, stock)
 }
 
-/// One callback that crashes at its third message.
-fn third(alloc: Global) -> Result<Vec<Handler>, AllocError> {
-    let mut stock: Vec<Handler> = Vec::new(alloc);
-    stock.push(Box::new(alloc, OwnBox::new(alloc, ThirdCrashes::new()))?)?;
-    Ok(stock)
-}
-
-/// So many callbacks as the case says, which share a count, which is 0, and meet all together.
-fn meeting(alloc: Global, case: &Case) -> Result<Vec<Handler>, AllocError> {
+/// Runs so many callbacks as the case says, which share a count, which is 0, and meet all together.
+fn run_meeting<R: Threads + Wait + Sync>(
+    rt: &HostRuntime,
+    waits: &R,
+    case: &Case,
+    count: u16,
+) -> io::Result<()>
+    requires least { 1 ≤ count }
+    requires most { count ≤ 16 }
+{
     let (group, looks) = (number(case.text("meets")), number(case.text("looks")));
-    let begun = Arc::new(alloc, AtomicU64::new(0))?;
-    let mut stock: Vec<Handler> = Vec::new(alloc);
+    let begun = Arc::new(rt.alloc(), AtomicU64::new(0))?;
+    let mut stock: Vec<Handler> = Vec::new(rt.alloc());
     for _ in 0..group {
         let meets = Meets::new(Arc::try_clone(&begun)?, group, looks);
-        stock.push(Box::new(alloc, OwnBox::new(alloc, meets))?)?;
+        stock.push(Box::new(rt.alloc(), OwnBox::new(rt.alloc(), meets))?)?;
     }
-    Ok(stock)
+    run_together(rt, waits, case, count, stock)
 }
 
 /// Runs the callbacks on so many workers.
@@ -87,26 +101,36 @@ fn run_together<R: Threads + Wait + Sync>(
     tell_outputs(rt, case, shown(&came.out), shown(&came.err))
 }
 
-/// So many handlers that pass all.
-pub fn passing(alloc: Global, count: &str) -> Result<Vec<Handler>, AllocError> {
-    let mut stock: Vec<Handler> = Vec::new(alloc);
+/// Runs the lines of the case with so many handlers that pass all.
+pub fn run_passing<R: Threads + Wait + Sync>(
+    rt: &HostRuntime,
+    waits: &R,
+    case: &Case,
+    count: &str,
+) -> io::Result<()> {
+    let mut stock: Vec<Handler> = Vec::new(rt.alloc());
     for _ in 0..number(count) {
-        stock.push(Box::new(alloc, OwnBox::new(alloc, PassAll))?)?;
+        stock.push(Box::new(rt.alloc(), OwnBox::new(rt.alloc(), PassAll))?)?;
     }
-    Ok(stock)
+    run_stock(rt, waits, case, stock)
 }
 
-/// So many callbacks that write plain text.
-pub fn plain_lines(alloc: Global, count: &str) -> Result<Vec<Handler>, AllocError> {
-    let mut stock: Vec<Handler> = Vec::new(alloc);
+/// Runs them with so many callbacks that write plain text.
+pub fn run_plain_lines<R: Threads + Wait + Sync>(
+    rt: &HostRuntime,
+    waits: &R,
+    case: &Case,
+    count: &str,
+) -> io::Result<()> {
+    let mut stock: Vec<Handler> = Vec::new(rt.alloc());
     for _ in 0..number(count) {
-        stock.push(Box::new(alloc, PlainLines::new(alloc))?)?;
+        stock.push(Box::new(rt.alloc(), PlainLines::new(rt.alloc()))?)?;
     }
-    Ok(stock)
+    run_stock(rt, waits, case, stock)
 }
 
 /// Runs the lines of the case with these callbacks, and writes each text that comes of it.
-pub fn run_stock<R: Threads + Wait + Sync>(
+fn run_stock<R: Threads + Wait + Sync>(
     rt: &HostRuntime,
     waits: &R,
     case: &Case,
