@@ -15,8 +15,8 @@ use crate::losing::{end_over, first_over, lose_all, mark_all, take_out};
 use crate::plans::{make_room, plan, plan_batches};
 use core_state::{Core, MOST_DUE};
 use core_tables::inboxes::deliver_all;
+use core_tables::place_table::PlaceTable;
 use core_tables::places::place_all;
-use pipe_types::message::Place;
 use pipe_types::numbers::StageNo;
 use pipe_types::room::Sent;
 use pipe_types::step::Step;
@@ -42,7 +42,7 @@ fn name_units(units: &mut Vec<Sent>, waiting: &VecDeque<(u32, u32)>)
 /// among the first so many.
 fn leave(
     queue: &mut VecDeque<(u32, u32)>,
-    places: &mut Vec<Place>,
+    places: &mut PlaceTable,
     settled: &mut Vec<u64>,
     stage: StageNo,
     first: usize,
