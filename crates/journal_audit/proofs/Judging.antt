@@ -1,5 +1,5 @@
 -- What the audit of a line says of the lines from it on, and what a verdict says of the text.
-use Rattle.std.proofs.Common.{◌≡◌, ℕ, Bool, true, false, cond, List, [], ◌∷◌, ◌++◌, length, Option, Some, None, Result, Ok, Err, refl, ap, sym, ◌∙◌, subst}
+use Rattle.std.proofs.Common.{◌≡◌, ℕ, Bool, true, false, cond, List, [], ◌∷◌, ◌++◌, length, Option, Some, Result, Ok, Err, refl, ap, sym, ◌∙◌, subst}
 use Rattle.std.specs.Prelude.{◌&&◌, IfOk, bytes_eq}
 use Rattle.std.specs.declared.alloc.AllocError.{AllocError}
 use Rattle.pipe_types.specs.declared.step.Step.{Step}
@@ -27,9 +27,9 @@ use Rattle.journal_reading.specs.Seen.{RunSeen}
 use Rattle.journal_audit.specs.declared.verdict.BadCause.{BadCause}
 use Rattle.journal_audit.specs.declared.verdict.BadCause.TheVariants as cause
 use Rattle.journal_audit.specs.declared.verdict.Verdict.{Verdict}
-use Rattle.journal_audit.specs.declared.verdict.Verdict.TheVariants.{Legal, Bad}
+use Rattle.journal_audit.specs.declared.verdict.Verdict.TheVariants.{Legal}
 use Rattle.journal_audit.specs.Causes.{cause_of, cause_seen, judged}
-use Rattle.journal_audit.specs.Verdicts.{summary_of, verdict_by, verdict_in, IsLegalText, IsSaid}
+use Rattle.journal_audit.specs.Verdicts.{summary_of, verdict_by, verdict_in, IsSaid}
 use Rattle.journal_audit.specs.declared.lines.LineFound.{LineFound}
 use Rattle.journal_audit.specs.declared.lines.LineFound.TheVariants.{Good, Last, Bad as BadLine}
 use Rattle.journal_audit.specs.Lines.{GoesOn, Finds, Judges}
@@ -121,7 +121,7 @@ pub step_found : (run : RunSeen) (after : History) (line : List ℕ) (step : Ste
 step_found run after line step (Err e) legal is judges = tt
 step_found run after line step (Ok Good) legal is judges = good_line run.topology run.steps after line step legal is judges.0 judges.1
 step_found run after line step (Ok Last) legal is judges = absurd judges
-step_found run after line step (Ok (BadLine c)) legal is judges = refused_line run.topology run.steps line step c legal is judges.0 judges.1
+step_found run after line step (Ok (BadLine c)) legal is judges = (judges.2, refused_line run.topology run.steps line step c legal is judges.0 judges.1)
 
 -- ---- what a verdict says
 

@@ -1,40 +1,41 @@
 -- What an audit of a text in pieces comes to.
-use Rattle.std.proofs.Common.{◌≡◌, ℕ, suc, ◌+◌, ◌≤◌, Bool, true, false, cond, List, [], ◌∷◌, ◌++◌, length, Result, Ok, Err, refl, ap, sym, ◌∙◌, subst, append_assoc, arith}
-use Rattle.std.specs.Prelude.{IfOk, bytes_eq, ◌==◌}
+use Rattle.std.proofs.Common.{◌≡◌, ℕ, Bool, true, false, cond, List, [], ◌∷◌, ◌++◌, length, Err, refl, ap, sym, ◌∙◌, subst, append_assoc, arith}
+use Rattle.std.specs.Prelude.{bytes_eq, ◌==◌}
 use Rattle.std.specs.List.{slice_split, onto_first}
-use Rattle.std.specs.declared.alloc.AllocError.{AllocError}
 use Rattle.std.proofs.lemmas.List.{append-nil}
 use Rattle.pipe_types.specs.declared.topology.Topology.{Topology}
 use Rattle.pipe_types.specs.Sound.{IsSound}
 use Rattle.pipe_model.specs.History.{History}
 use Rattle.line_reading.specs.Reading.{is_at}
 use Rattle.line_reading.proofs.Spelt.{Lacks, each_append, split_none}
-use Rattle.reading_laws.specs.Text.{but_last, lines_of, lines_in, header, after_header, text_in}
+use Rattle.reading_laws.specs.Text.{but_last, lines_of, line_after, lines_in, header, after_header, text_in}
 use Rattle.reading_laws.proofs.Texts.{split_some, first_line}
+use Rattle.journal_audit.specs.declared.verdict.BadCause.{BadCause}
 use Rattle.journal_audit.specs.declared.verdict.BadCause.TheVariants as cause
 use Rattle.journal_audit.specs.declared.verdict.Verdict.{Verdict}
 use Rattle.journal_audit.specs.declared.verdict.Verdict.TheVariants.{Legal, Bad}
 use Rattle.journal_audit.specs.declared.pieces.Progress.{Progress}
 use Rattle.journal_audit.specs.declared.pieces.Progress.TheVariants.{Header, Steps, Found}
-use Rattle.journal_audit.specs.declared.lines.LineFound.TheVariants.{Good, Last, Bad as BadLine}
+use Rattle.journal_audit.specs.declared.lines.LineFound.TheVariants.{Last, Bad as BadLine}
 use Rattle.journal_audit.specs.Causes.{judged}
 use Rattle.journal_audit.specs.Lines.{GoesOn, Finds}
 use Rattle.journal_audit.specs.Verdicts.{summary_of, verdict_by, verdict_in, IsSaid}
 use Rattle.journal_audit.specs.AuditSeen.{AuditSeen}
-use Rattle.journal_audit.specs.Pieces.{header_leads, verdict_first, verdict_on, verdict_from, Audits, Leads, Takes}
+use Rattle.journal_audit.specs.Pieces.{header_leads, verdict_first, verdict_on, Audits, Leads, Takes}
 use Rattle.journal_audit.proofs.Judging.{said_by}
 
 -- ---- lines that have not ended
 
+some_line : (line : List ℕ) (lines : List (List ℕ)) → line ∷ lines ≡ [] → ⊥
+some_line line lines none = cc
+
 -- parts that make a line more are not none
 ended : (parts : List (List ℕ)) (part : List ℕ) (more : List (List ℕ)) → parts ≡ part ∷ more → but_last ([] ∷ parts) ≡ [] → ⊥
-ended parts part more is none =
-    let e : ([] : List ℕ) ∷ but_last (part ∷ more) ≡ [] = sym (ap (λ (ps : List (List ℕ)). but_last ([] ∷ ps)) is) ∙ none in
-    cc
+ended parts part more is none = some_line [] (but_last (part ∷ more)) (sym (ap (λ (ps : List (List ℕ)). but_last ([] ∷ ps)) is) ∙ none)
 
 one_part : (b : ℕ) (part : List ℕ) (more : List (List ℕ)) → but_last ((b ∷ part) ∷ more) ≡ [] → but_last (part ∷ more) ≡ []
 one_part b part [] none = refl
-one_part b part (next ∷ more) none = absurd cc
+one_part b part (next ∷ more) none = absurd (some_line (b ∷ part) (but_last (next ∷ more)) none)
 
 fewer : (b : ℕ) (parts : List (List ℕ)) (part : List ℕ) (more : List (List ℕ)) → parts ≡ part ∷ more → but_last (onto_first b parts) ≡ [] → but_last parts ≡ []
 fewer b parts part more is none = ap but_last is ∙ one_part b part more (sym (ap (λ (ps : List (List ℕ)). but_last (onto_first b ps)) is) ∙ none)
@@ -86,6 +87,13 @@ last_lead topology before after line verdict is last = record {
   few = omega (arith, ap length last.0);
 }
 
+pub bad_lead : (topology : Topology) (before after : History) (line : List ℕ) (number : ℕ) (c : BadCause) (verdict : Verdict) → verdict ≡ Bad number c → number ≡ line_after before → Finds topology before after line (BadLine c)
+    → Leads topology before after Steps line (Found verdict)
+bad_lead topology before after line number c verdict is at bad = record {
+  same = λ lines. ap (verdict_by topology) (bad.1 lines) ∙ sym (is ∙ ap (λ (n : ℕ). Bad n c) at);
+  few = omega (arith, ap length bad.0);
+}
+
 pub found_lead : (topology : Topology) (before : History) (line : List ℕ) (verdict : Verdict) → Leads topology before before (Found verdict) line (Found verdict)
 found_lead topology before line verdict = record { same = λ lines. refl; few = omega arith }
 
@@ -112,9 +120,9 @@ taken_rest topology after progress begun begun' rest verdict is so_far behind =
 -- ---- a text
 
 -- nothing has come
-pub fresh_audits : (topology : Topology) (a : AuditSeen) → a.topology ≡ topology → a.steps ≡ [] → a.progress ≡ Header → a.begun ≡ [] → Audits topology [] a
+pub fresh_audits : (topology of : Topology) (steps : History) (begun : List ℕ) → of ≡ topology → steps ≡ [] → begun ≡ [] → (rest : List ℕ) → verdict_first of steps (lines_of (begun ++ rest)) ≡ verdict_in topology rest
 unfolding text_in
-fresh_audits topology a of none first begun rest = rw (of, none, first, begun) (by (lines_of rest))
+fresh_audits topology of steps begun same none empty rest = rw (same, none, empty) (by (lines_of rest))
   where
     by : (lines : List (List ℕ)) → verdict_first topology [] lines ≡ verdict_by topology (after_header judged topology lines)
     by [] = refl
@@ -125,9 +133,10 @@ fresh_audits topology a of none first begun rest = rw (of, none, first, begun) (
         by_word false = refl
 
 -- a piece has come
-pub more_audits : (topology : Topology) (text piece : List ℕ) (a next : AuditSeen) → next.topology ≡ a.topology → Takes a.topology a.steps next.steps a.progress a.begun next.begun piece next.progress → Audits topology text a → Audits topology (text ++ piece) next
-more_audits topology text piece a next of takes audits rest =
-    ap (λ (t : Topology). verdict_on t next.steps next.progress (lines_of (next.begun ++ rest))) of
+pub more_audits : (topology : Topology) (text piece : List ℕ) (a : AuditSeen) (of : Topology) (after : History) (next : Progress) (begun' : List ℕ) → of ≡ a.topology → Takes a.topology a.steps after a.progress a.begun begun' piece next → Audits topology text a
+    → (rest : List ℕ) → verdict_on of after next (lines_of (begun' ++ rest)) ≡ verdict_in topology ((text ++ piece) ++ rest)
+more_audits topology text piece a of after next begun' same takes audits rest =
+    ap (λ (t : Topology). verdict_on t after next (lines_of (begun' ++ rest))) same
     ∙ (takes.same rest ∙ (audits (piece ++ rest) ∙ ap (verdict_in topology) (sym (append_assoc text piece rest))))
 
 -- it has come as a whole

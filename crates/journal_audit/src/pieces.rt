@@ -3,7 +3,7 @@
 ghost use Rattle.std.specs.Prelude.{◌≡◌, ◌<◌, ◌≤◌, ◌+◌, ◌^◌, ◌++◌, [], ℕ, List, length, IfOk};
 ghost use Rattle.pipe_types.specs.{declared.topology.Topology.{Topology as TopologyOf}, Sound.{IsSound}};
 ghost use Rattle.reading_laws.specs.Text.{lines_of};
-ghost use Rattle.journal_audit.specs.{Pieces.{Audits, Leads, Takes, header_leads}, Verdicts.{verdict_in, IsSaid}};
+ghost use Rattle.journal_audit.specs.{Pieces.{Audits, Leads, Takes, header_leads, verdict_on}, Verdicts.{verdict_in, IsSaid}};
 ghost use Rattle.journal_audit.specs.declared.{verdict.Verdict.TheVariants.{Bad}, pieces.Progress.TheVariants.{Steps}};
 
 use crate::lines::{LineFound, audit_line};
@@ -93,16 +93,24 @@ impl Auditing {
         })
     }
 
-    /// The verdict on the text that has come.
-    pub fn finish(self) -> Verdict
-        ensures verdict { (topology : TopologyOf) (text : List ℕ) → Audits topology text self → result ≡ verdict_in topology text }
-        ensures said { (topology : TopologyOf) (text : List ℕ) → IsSound topology → Audits topology text self → IsSaid topology text result }
+    /// The verdict on the text that has come, where no more is to come.
+    pub fn verdict(&self) -> Verdict
+        ensures verdict { (topology : TopologyOf) (text : List ℕ) → Audits topology text self.now → result ≡ verdict_in topology text }
+        ensures said { (topology : TopologyOf) (text : List ℕ) → IsSound topology → Audits topology text self.now → IsSaid topology text result }
     {
-        match self.progress {
-            Progress::Header => bad(1, BadCause::Header),
-            Progress::Steps => bad(self.run.journal().len() + 2, BadCause::End),
-            Progress::Found(verdict) => verdict,
-        }
+        verdict_here(&self.run, self.progress)
+    }
+}
+
+/// The verdict where no line is to come.
+fn verdict_here(run: &PlainRun, progress: Progress) -> Verdict
+    requires few { length run.now.steps < 2 ^ 63 }
+    ensures { result ≡ verdict_on run.now.topology run.now.steps progress [] }
+{
+    match progress {
+        Progress::Header => bad(1, BadCause::Header),
+        Progress::Steps => bad(run.journal().len() + 2, BadCause::End),
+        Progress::Found(verdict) => verdict,
     }
 }
 

@@ -25,5 +25,5 @@ pub fn audit(alloc: Global, topology: &Topology, bytes: &[u8]) -> Result<Verdict
 {
     let fresh = Auditing::new(alloc, topology)?;
     let audit = fresh.push(bytes)?;
-    Ok(audit.finish())
+    Ok(audit.verdict())
 }

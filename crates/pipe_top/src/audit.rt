@@ -14,9 +14,7 @@ use pipe_edges::{ByteSource, EdgeEnd, Edges, ReadEnd};
 use pipe_journal::Journal;
 use pipe_types::bytes::Text;
 use pipe_types::topology::Topology;
-use run_verdicts::{
-    AuditFault, Auditing, Judgement, Refusal, Summary, Texts, Verdict, legal_text,
-};
+use run_verdicts::{AuditFault, Auditing, Judgement, Refusal, Summary, Texts, Verdict, legal_text};
 use std::alloc::{AllocError, Global};
 
 /// As many bytes as a journal may have.
@@ -56,7 +54,7 @@ fn read_source<B: ByteSource>(
                 }
                 audit = audit.push(&piece[..n])?;
             }
-            ReadEnd::End => return Ok(found(audit.finish())),
+            ReadEnd::End => return Ok(found(audit.verdict())),
             ReadEnd::Failed => return Ok(Err(AuditFault::Source)),
             ReadEnd::Empty => return Ok(Err(AuditFault::Wait)),
         }

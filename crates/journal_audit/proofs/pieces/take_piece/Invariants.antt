@@ -8,7 +8,7 @@ abbrev pub invariant-loop-cut : goal.invariant-loop-cut
 invariant-loop-cut l = record {
   of : l.run.topology ≡ l.initial.run.topology;
   unended : lines_of l.begun.items ≡ [];
-  same : (behind : List ℕ) → verdict_on l.initial.run.topology l.run.steps l.next (lines_of (l.begun.items ++ (l.rest ++ behind))) ≡ verdict_on l.initial.run.topology l.initial.run.steps l.progress (lines_of (l.initial.begun.items ++ (l.piece ++ behind)));
+  same : (behind : List ℕ) → verdict_on l.initial.run.topology l.run.steps l.next (lines_of (l.begun.items ++ (l.rest ++ behind))) ≡ verdict_on l.initial.run.topology l.initial.run.steps l.fn.progress (lines_of (l.initial.begun.items ++ (l.piece ++ behind)));
   room : length l.run.steps + length l.rest ≤ length l.initial.run.steps + length l.piece;
 }
 
