@@ -1,5 +1,5 @@
 -- What the audit of a line says of the lines from it on, and what a verdict says of the text.
-use Rattle.std.proofs.Common.{◌≡◌, ℕ, Bool, true, false, cond, List, [], ◌∷◌, ◌++◌, length, Option, Some, None, Result, Ok, Err, refl, ap, sym, ◌∙◌, subst}
+use Rattle.std.proofs.Common.{◌≡◌, ℕ, Bool, true, false, cond, List, [], ◌∷◌, ◌++◌, length, Option, Some, Result, Ok, Err, refl, ap, sym, ◌∙◌, subst}
 use Rattle.std.specs.Prelude.{◌&&◌, IfOk, bytes_eq}
 use Rattle.std.specs.declared.alloc.AllocError.{AllocError}
 use Rattle.pipe_types.specs.declared.step.Step.{Step}
@@ -27,9 +27,9 @@ use Rattle.journal_reading.specs.Seen.{RunSeen}
 use Rattle.journal_audit.specs.declared.verdict.BadCause.{BadCause}
 use Rattle.journal_audit.specs.declared.verdict.BadCause.TheVariants as cause
 use Rattle.journal_audit.specs.declared.verdict.Verdict.{Verdict}
-use Rattle.journal_audit.specs.declared.verdict.Verdict.TheVariants.{Legal, Bad}
+use Rattle.journal_audit.specs.declared.verdict.Verdict.TheVariants.{Legal}
 use Rattle.journal_audit.specs.Causes.{cause_of, cause_seen, judged}
-use Rattle.journal_audit.specs.Verdicts.{summary_of, verdict_by, verdict_in, IsLegalText, IsSaid}
+use Rattle.journal_audit.specs.Verdicts.{summary_of, verdict_by, verdict_in, IsSaid}
 use Rattle.journal_audit.specs.declared.lines.LineFound.{LineFound}
 use Rattle.journal_audit.specs.declared.lines.LineFound.TheVariants.{Good, Last, Bad as BadLine}
 use Rattle.journal_audit.specs.Lines.{GoesOn, Finds, Judges}
@@ -121,48 +121,7 @@ pub step_found : (run : RunSeen) (after : History) (line : List ℕ) (step : Ste
 step_found run after line step (Err e) legal is judges = tt
 step_found run after line step (Ok Good) legal is judges = good_line run.topology run.steps after line step legal is judges.0 judges.1
 step_found run after line step (Ok Last) legal is judges = absurd judges
-step_found run after line step (Ok (BadLine c)) legal is judges = refused_line run.topology run.steps line step c legal is judges.0 judges.1
-
--- ---- lines
-
--- what is left spells the same
-pub same_on : (topology : Topology) (before after : History) (front rest more text : List ℕ) → lines_of rest ≡ front ∷ lines_of more → GoesOn topology before after front
-    → lines_in judged topology before (lines_of rest) ≡ lines_in judged topology [] (lines_of text) → lines_in judged topology after (lines_of more) ≡ lines_in judged topology [] (lines_of text)
-same_on topology before after front rest more text first goes so_far = sym (goes.same (lines_of more)) ∙ (ap (lines_in judged topology before) (sym first) ∙ so_far)
-
--- the line decides
-pub decided_on : (topology : Topology) (before : History) (found : Found) (front rest more text : List ℕ) → lines_of rest ≡ front ∷ lines_of more
-    → ((lines : List (List ℕ)) → lines_in judged topology before (front ∷ lines) ≡ found)
-    → lines_in judged topology before (lines_of rest) ≡ lines_in judged topology [] (lines_of text) → verdict_by topology found ≡ verdict_by topology (lines_in judged topology [] (lines_of text))
-decided_on topology before found front rest more text first decides so_far =
-    ap (verdict_by topology) (sym (sym so_far ∙ (ap (lines_in judged topology before) first ∙ decides (lines_of more))))
-
--- no line is left
-pub none_on : (topology : Topology) (before : History) (n : ℕ) (rest text : List ℕ) → lines_of rest ≡ [] → n ≡ line_after before
-    → lines_in judged topology before (lines_of rest) ≡ lines_in judged topology [] (lines_of text) → Bad n cause.End ≡ verdict_by topology (lines_in judged topology [] (lines_of text))
-none_on topology before n rest text none at so_far =
-    ap (λ (k : ℕ). Bad k cause.End) at ∙ ap (verdict_by topology) (sym (sym so_far ∙ ap (lines_in judged topology before) none))
-
--- ---- a text
-
-pub header_read : (topology : Topology) (front rest : List ℕ) (b : Bool) (result : Result Verdict AllocError) → b ≡ bytes_eq front header → b ≡ true
-    → IfOk result (λ verdict. verdict ≡ verdict_by topology (lines_in judged topology [] (lines_of rest))) → IfOk result (λ verdict. verdict ≡ verdict_by topology (after_header judged topology (front ∷ lines_of rest)))
-header_read topology front rest b result told holds is =
-    subst (λ (found : Found). IfOk result (λ verdict. verdict ≡ verdict_by topology found)) (sym (ap (λ (c : Bool). cond c (lines_in judged topology [] (lines_of rest)) (bad_line 1 cause.Header)) (sym told ∙ holds))) is
-
-pub header_bad : (topology : Topology) (front rest : List ℕ) (b : Bool) → b ≡ bytes_eq front header → b ≡ false → Bad 1 cause.Header ≡ verdict_by topology (after_header judged topology (front ∷ lines_of rest))
-header_bad topology front rest b told fails =
-    sym (ap (λ (c : Bool). verdict_by topology (cond c (lines_in judged topology [] (lines_of rest)) (bad_line 1 cause.Header))) (sym told ∙ fails))
-
-pub header_first : (topology : Topology) (bytes front rest : List ℕ) (result : Result Verdict AllocError) → lines_of bytes ≡ front ∷ lines_of rest
-    → IfOk result (λ verdict. verdict ≡ verdict_by topology (after_header judged topology (front ∷ lines_of rest))) → IfOk result (λ verdict. verdict ≡ verdict_in topology bytes)
-unfolding text_in
-header_first topology bytes front rest result first is =
-    subst (λ (ls : List (List ℕ)). IfOk result (λ verdict. verdict ≡ verdict_by topology (after_header judged topology ls))) (sym first) is
-
-pub header_none : (topology : Topology) (bytes : List ℕ) → lines_of bytes ≡ [] → Bad 1 cause.Header ≡ verdict_in topology bytes
-unfolding text_in
-header_none topology bytes none = sym (ap (λ (ls : List (List ℕ)). verdict_by topology (after_header judged topology ls)) none)
+step_found run after line step (Ok (BadLine c)) legal is judges = (judges.2, refused_line run.topology run.steps line step c legal is judges.0 judges.1)
 
 -- ---- what a verdict says
 

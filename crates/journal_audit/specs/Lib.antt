@@ -1,3 +1,5 @@
 pub mod Causes
 pub mod Verdicts
 pub mod Lines
+pub mod AuditSeen
+pub mod Pieces

@@ -18,10 +18,10 @@ pub record GoesOn (topology : Topology) (before after : History) (line : List �
 abbrev pub Finds : Topology → (before after : History) → (line : List ℕ) → LineFound → Type 0
 Finds topology before after line Good = GoesOn topology before after line
 Finds topology before after line Last = (after ≡ before) × ((lines : List (List ℕ)) → lines_in judged topology before (line ∷ lines) ≡ Ok before)
-Finds topology before after line (Bad cause) = (lines : List (List ℕ)) → lines_in judged topology before (line ∷ lines) ≡ bad_line (line_after before) cause
+Finds topology before after line (Bad cause) = (after ≡ before) × ((lines : List (List ℕ)) → lines_in judged topology before (line ∷ lines) ≡ bad_line (line_after before) cause)
 
 -- the step was legal and stands now before the others, or it was not
 abbrev pub Judges : Topology → (before after : History) → StepOf → LineFound → Type 0
 Judges topology before after step Good = (allows topology before step ≡ true) × (after ≡ step ∷ before)
 Judges topology before after step Last = ⊥
-Judges topology before after step (Bad cause) = (allows topology before step ≡ false) × (cause ≡ Step)
+Judges topology before after step (Bad cause) = (allows topology before step ≡ false) × (cause ≡ Step) × (after ≡ before)

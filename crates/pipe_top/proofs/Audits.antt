@@ -1,78 +1,147 @@
 -- What an audit comes to, from what its parts come to.
-use Rattle.std.proofs.Common.{◌≡◌, ℕ, List, [], ◌∷◌, ◌++◌, Option, None, Result, Ok, Err, refl, sym, ◌∙◌, ap, subst, inl, inr}
-use Rattle.std.specs.Prelude.{IsTrue, IfOk}
-use Rattle.std.specs.declared.alloc.AllocError.{AllocError}
-use Rattle.std.proofs.lemmas.List.{append-nil}
+use Rattle.std.proofs.Common.{◌≡◌, ℕ, ◌+◌, ◌<◌, ◌≤◌, List, [], ◌∷◌, ◌++◌, length, take, Option, None, Result, Ok, Err, refl, sym, ◌∙◌, ap, subst, inl, inr, append_assoc, arith}
+use Rattle.std.specs.Prelude.{IsTrue}
+use Rattle.std.proofs.lemmas.List.{append-nil, length-append, length-take-le}
 use Rattle.pipe_types.specs.Counts.{Rose}
 use Rattle.pipe_types.specs.declared.topology.Topology.{Topology}
+use Rattle.pipe_types.specs.Sound.{IsSound}
 use Rattle.pipe_model.specs.History.{History}
 use Rattle.pipe_edges.specs.declared.edges.EdgeKind.{EdgeKind}
 use Rattle.pipe_edges.specs.declared.edges.EdgeKind.TheVariants.{Source as SourceKind}
-use Rattle.pipe_edges.specs.declared.edges.EdgeEnd.TheVariants.{Failed, OutOfMemory}
-use Rattle.pipe_edges.specs.declared.whole.WholeRead.{WholeRead}
-use Rattle.pipe_edges.specs.declared.whole.WholeRead.TheVariants as answer
-use Rattle.pipe_edges.specs.Whole.{WholeIs, ReadsWhole}
+use Rattle.pipe_edges.specs.declared.edges.EdgeEnd.TheVariants as edge
+use Rattle.pipe_edges.specs.declared.source.ReadEnd.{ReadEnd}
+use Rattle.pipe_edges.specs.declared.source.ReadEnd.TheVariants.{Got, End, Failed, Empty}
+use Rattle.pipe_edges.specs.Reads.{ReadsBytes, ReadHasCause}
 use Rattle.stage_bodies.specs.Seen.{SourceSeen}
 use Rattle.edge_names.specs.Seen.{EdgesSeen}
 use Rattle.edge_names.specs.Named.{GivesSource, Opens, BacksSource}
-use Rattle.run_verdicts.specs.Judged.{Summary}
+use Rattle.run_verdicts.specs.Judged.{Summary, Judgement, Legal, Bad, verdict_in, IsSaid, AuditSeen, Audits}
 use Rattle.run_verdicts.specs.declared.audits.AuditFault.{AuditFault}
 use Rattle.run_verdicts.specs.declared.audits.AuditFault.TheVariants.{Line, Large, Wait, Source}
 use Rattle.run_verdicts.specs.declared.verdict.Refusal.{Refusal}
 use Rattle.run_verdicts.specs.declared.verdict.Refusal.TheVariants.{Usage, Topology as NoTopology, Stock, Edge, Audit, Memory}
 use Rattle.run_verdicts.specs.declared.verdict.Verdict.{Verdict}
 use Rattle.run_verdicts.specs.declared.verdict.Verdict.TheVariants.{Refused}
-use Rattle.pipe_top.specs.Audits.{most_bytes, IsFound, FaultHasCause, IsAuditOf, MayBeBack}
+use Rattle.pipe_top.specs.Audits.{most_bytes, IsFound, found_by, FaultHasCause, IsAuditOf, MayBeBack}
 use Rattle.pipe_top.specs.Runs.{OutsideSeen, IsJournalBack, FailsAt}
-use Rattle.pipe_top.specs.Flows.{IsAuditedOrNot, JudgesText, ReadsSource, JudgesSource, IsJudged, IsJudgedBy, JudgesOpened, JudgesJournal, AskedJournal, ReadsJournal, ComesAudited}
-
-abbrev WholeAnswer : Type 0
-WholeAnswer = Result WholeRead AllocError
+use Rattle.pipe_top.specs.Flows.{IsAuditedOrNot, ReadsSource, JudgesSource, IsJudged, IsJudgedBy, JudgesOpened, JudgesJournal, AskedJournal, ReadsJournal, ComesAudited}
 
 -- ---- the source
 
--- what was taken is what came
-came_is : (old new : SourceSeen) (r : WholeAnswer) (w : ReadsWhole most_bytes old.taken old.left new.taken new.left r) → old.taken ≡ [] → new.taken ≡ w.came
-came_is old new r w none = w.into_taken ∙ ap (λ (x : List ℕ). x ++ w.came) none
+-- what came of the source so far, and was judged
+pub record ReadSoFar (wanted : Topology) (old now : SourceSeen) (audit : AuditSeen) : Type 0 where
+  pub came : List ℕ
+  pub same_telling : now.told ≡ old.told
+  pub from_left : IsTrue old.told → old.left ≡ came ++ now.left
+  pub into_taken : IsTrue old.told → now.taken ≡ old.taken ++ came
+  pub faults_stay : old.faults ≤ now.faults
+  pub waits_stay : old.waits ≤ now.waits
+  pub counted : audit.read ≡ length came
+  pub within : audit.read ≤ most_bytes
+  pub audits : Audits wanted came audit
 
--- what is found of what came is found of the source
-pub read_by : (end : Result Summary AuditFault) (wanted : Topology) (old new : SourceSeen) (r : WholeAnswer) → new.told ≡ old.told
-    → (IsTrue old.told → ReadsWhole most_bytes old.taken old.left new.taken new.left r) → ((came : List ℕ) → IfOk r (WholeIs most_bytes came new.left) → IsFound wanted came new.left end)
-    → FaultHasCause old.faults new.faults old.waits new.waits end → ReadsSource end wanted old new
-read_by end wanted old new r telling reads finds cause = record {
-  same_telling = telling;
-  same_bytes = λ t none. (reads t).from_left ∙ ap (λ (x : List ℕ). x ++ new.left) (sym (came_is old new r (reads t) none));
-  found = λ t none. subst (λ (x : List ℕ). IsFound wanted x new.left end) (sym (came_is old new r (reads t) none)) (finds (reads t).came (reads t).whole);
-  cause = cause;
+-- what a read does to it
+pub record ReadOnce (now next : SourceSeen) (piece : List ℕ) (end : ReadEnd) : Type 0 where
+  pub same_telling : next.told ≡ now.told
+  pub bytes : IsTrue now.told → ReadsBytes now.taken now.left piece next.taken next.left end
+  pub faults_stay : now.faults ≤ next.faults
+  pub waits_stay : now.waits ≤ next.waits
+  pub cause : ReadHasCause now.faults next.faults now.waits next.waits end
+
+-- nothing came
+pub none_read : (wanted : Topology) (source : SourceSeen) (audit : AuditSeen) → Audits wanted [] audit → audit.read ≡ 0 → ReadSoFar wanted source source audit
+none_read wanted source audit audits none = record {
+  came = [];
+  same_telling = refl;
+  from_left = λ t. refl;
+  into_taken = λ t. sym (append-nil source.taken);
+  faults_stay = omega arith;
+  waits_stay = omega arith;
+  counted = none;
+  within = omega (arith, none);
+  audits = audits;
 }
 
--- the whole text was judged
-pub whole_judged : (wanted : Topology) (old new : SourceSeen) (bytes : List ℕ) (result : Result Summary Refusal) → new.told ≡ old.told
-    → (IsTrue old.told → ReadsWhole most_bytes old.taken old.left new.taken new.left (Ok (answer.All bytes))) → JudgesText wanted bytes result → JudgesSource wanted old new result
-whole_judged wanted old new bytes (Ok summary) telling reads judged =
-    read_by (Ok summary) wanted old new (Ok (answer.All bytes)) telling reads (λ came w. ((w.1, w.2), subst (λ (x : List ℕ). JudgesText wanted x (Ok summary)) w.0 judged)) tt
-whole_judged wanted old new bytes (Err (Audit (Line line cause))) telling reads judged =
-    read_by (Err (Line line cause)) wanted old new (Ok (answer.All bytes)) telling reads (λ came w. ((w.1, w.2), subst (λ (x : List ℕ). JudgesText wanted x (Err (Audit (Line line cause)))) w.0 judged)) tt
-whole_judged wanted old new bytes (Err (Audit Large)) telling reads judged = absurd judged
-whole_judged wanted old new bytes (Err (Audit Wait)) telling reads judged = absurd judged
-whole_judged wanted old new bytes (Err (Audit Source)) telling reads judged = absurd judged
-whole_judged wanted old new bytes (Err Memory) telling reads judged = tt
-whole_judged wanted old new bytes (Err Usage) telling reads judged = absurd judged
-whole_judged wanted old new bytes (Err (NoTopology fault)) telling reads judged = absurd judged
-whole_judged wanted old new bytes (Err (Stock shortage)) telling reads judged = absurd judged
-whole_judged wanted old new bytes (Err (Edge name)) telling reads judged = absurd judged
+-- a piece came
+came_left : (old now next : SourceSeen) (came part : List ℕ) → (IsTrue old.told → old.left ≡ came ++ now.left) → (IsTrue old.told → now.left ≡ part ++ next.left) → IsTrue old.told → old.left ≡ (came ++ part) ++ next.left
+came_left old now next came part from more t = from t ∙ (ap (λ (x : List ℕ). came ++ x) (more t) ∙ sym (append_assoc came part next.left))
+
+came_taken : (old now next : SourceSeen) (came part : List ℕ) → (IsTrue old.told → now.taken ≡ old.taken ++ came) → (IsTrue old.told → next.taken ≡ now.taken ++ part) → IsTrue old.told → next.taken ≡ old.taken ++ (came ++ part)
+came_taken old now next came part into more t = more t ∙ (ap (λ (x : List ℕ). x ++ part) (into t) ∙ append_assoc old.taken came part)
+
+pub more_read : (wanted : Topology) (old now next : SourceSeen) (audit audit' : AuditSeen) (piece : List ℕ) (n : ℕ) → ReadSoFar wanted old now audit → ReadOnce now next piece (Got n) → audit'.read ≡ audit.read + length (take n piece) → audit'.read ≤ most_bytes
+    → ((topology : Topology) (text : List ℕ) → Audits topology text audit → Audits topology (text ++ take n piece) audit') → ReadSoFar wanted old next audit'
+more_read wanted old now next audit audit' piece n so_far once count within audits = record {
+  came = so_far.came ++ take n piece;
+  same_telling = once.same_telling ∙ so_far.same_telling;
+  from_left = came_left old now next so_far.came (take n piece) so_far.from_left (λ t. (once.bytes (rw so_far.same_telling t)).0);
+  into_taken = came_taken old now next so_far.came (take n piece) so_far.into_taken (λ t. (once.bytes (rw so_far.same_telling t)).1);
+  faults_stay = omega (arith, so_far.faults_stay, once.faults_stay);
+  waits_stay = omega (arith, so_far.waits_stay, once.waits_stay);
+  counted = omega (arith, count, so_far.counted, length-append so_far.came (take n piece));
+  within = within;
+  audits = audits wanted so_far.came so_far.audits;
+}
+
+-- what is found of what came is found of the source
+read_by : (end : Result Summary AuditFault) (wanted : Topology) (old new : SourceSeen) (came : List ℕ) → new.told ≡ old.told → (IsTrue old.told → old.left ≡ came ++ new.left) → (IsTrue old.told → new.taken ≡ old.taken ++ came)
+    → (IsTrue old.told → IsFound wanted came new.left end) → FaultHasCause old.faults new.faults old.waits new.waits end → ReadsSource end wanted old new
+read_by end wanted old new came telling from into finds cause = record {
+  same_telling = telling;
+  same_bytes = λ t none. from t ∙ ap (λ (x : List ℕ). x ++ new.left) (sym (is t none));
+  found = λ t none. subst (λ (x : List ℕ). IsFound wanted x new.left end) (sym (is t none)) (finds t);
+  cause = cause;
+}
+  where
+    is : IsTrue old.told → old.taken ≡ [] → new.taken ≡ came
+    is t none = into t ∙ ap (λ (x : List ℕ). x ++ came) none
+
+-- no byte came with this read
+read_none : (end : Result Summary AuditFault) (wanted : Topology) (old now next : SourceSeen) (audit : AuditSeen) → ReadSoFar wanted old now audit → next.told ≡ now.told → (IsTrue now.told → (next.left ≡ now.left) × (next.taken ≡ now.taken))
+    → ((came : List ℕ) → Audits wanted came audit → length came ≤ most_bytes → IsTrue now.told → IsFound wanted came next.left end) → FaultHasCause old.faults next.faults old.waits next.waits end → ReadsSource end wanted old next
+read_none end wanted old now next audit so_far telling same finds cause =
+    read_by end wanted old next so_far.came (telling ∙ so_far.same_telling)
+    (λ t. so_far.from_left t ∙ ap (λ (x : List ℕ). so_far.came ++ x) (sym (same (rw so_far.same_telling t)).0))
+    (λ t. (same (rw so_far.same_telling t)).1 ∙ so_far.into_taken t)
+    (λ t. finds so_far.came so_far.audits (omega (arith, so_far.counted, so_far.within)) (rw so_far.same_telling t))
+    cause
+
+rose_from : (a b c : ℕ) → a ≤ b → Rose b c → Rose a c
+rose_from a b c low (inl r) = inl (omega (arith, low, r))
+rose_from a b c low (inr r) = inr r
 
 -- the reading stopped
-pub large_judged : (wanted : Topology) (old new : SourceSeen) → new.told ≡ old.told → (IsTrue old.told → ReadsWhole most_bytes old.taken old.left new.taken new.left (Ok answer.Large)) → ReadsSource (Err Large) wanted old new
-large_judged wanted old new telling reads = read_by (Err Large) wanted old new (Ok answer.Large) telling reads (λ came w. w) tt
+pub large_read : (wanted : Topology) (old now next : SourceSeen) (audit : AuditSeen) (piece : List ℕ) (n : ℕ) → ReadSoFar wanted old now audit → ReadOnce now next piece (Got n) → n ≤ length piece → most_bytes < audit.read + n → ReadsSource (Err Large) wanted old next
+large_read wanted old now next audit piece n so_far once room large =
+    read_by (Err Large) wanted old next (so_far.came ++ take n piece) (once.same_telling ∙ so_far.same_telling)
+    (came_left old now next so_far.came (take n piece) so_far.from_left (λ t. (once.bytes (rw so_far.same_telling t)).0))
+    (came_taken old now next so_far.came (take n piece) so_far.into_taken (λ t. (once.bytes (rw so_far.same_telling t)).1))
+    (λ t. omega (arith, large, room, so_far.counted, length-append so_far.came (take n piece), length-take-le n piece room)) tt
 
-pub wait_judged : (wanted : Topology) (old new : SourceSeen) → new.told ≡ old.told → (IsTrue old.told → ReadsWhole most_bytes old.taken old.left new.taken new.left (Ok answer.Empty)) → Rose old.waits new.waits
-    → ReadsSource (Err Wait) wanted old new
-wait_judged wanted old new telling reads rose = read_by (Err Wait) wanted old new (Ok answer.Empty) telling reads (λ came w. w) rose
+pub wait_read : (wanted : Topology) (old now next : SourceSeen) (audit : AuditSeen) (piece : List ℕ) → ReadSoFar wanted old now audit → ReadOnce now next piece Empty → ReadsSource (Err Wait) wanted old next
+wait_read wanted old now next audit piece so_far once =
+    read_none (Err Wait) wanted old now next audit so_far once.same_telling (λ t. once.bytes t) (λ came audits few t. few) (rose_from old.waits now.waits next.waits so_far.waits_stay once.cause)
 
-pub fault_judged : (wanted : Topology) (old new : SourceSeen) → new.told ≡ old.told → (IsTrue old.told → ReadsWhole most_bytes old.taken old.left new.taken new.left (Ok answer.Failed)) → Rose old.faults new.faults
-    → ReadsSource (Err Source) wanted old new
-fault_judged wanted old new telling reads rose = read_by (Err Source) wanted old new (Ok answer.Failed) telling reads (λ came w. w) rose
+pub fault_read : (wanted : Topology) (old now next : SourceSeen) (audit : AuditSeen) (piece : List ℕ) → ReadSoFar wanted old now audit → ReadOnce now next piece Failed → ReadsSource (Err Source) wanted old next
+fault_read wanted old now next audit piece so_far once =
+    read_none (Err Source) wanted old now next audit so_far once.same_telling (λ t. once.bytes t) (λ came audits few t. few) (rose_from old.faults now.faults next.faults so_far.faults_stay once.cause)
+
+-- it ended, and all of it was judged
+found_whole : (wanted : Topology) (came left : List ℕ) (verdict : Judgement) → left ≡ [] → length came ≤ most_bytes → verdict ≡ verdict_in wanted came → IsSaid wanted came verdict → IsFound wanted came left (found_by verdict)
+found_whole wanted came left (Legal summary) none few is said = ((none, few), (sym is, said))
+found_whole wanted came left (Bad line cause) none few is said = ((none, few), sym is)
+
+caused_by : (verdict : Judgement) (a b c d : ℕ) → FaultHasCause a b c d (found_by verdict)
+caused_by (Legal summary) a b c d = tt
+caused_by (Bad line cause) a b c d = tt
+
+pub end_read : (wanted : Topology) (old now next : SourceSeen) (audit : AuditSeen) (piece : List ℕ) (verdict : Judgement) → IsSound wanted → ReadSoFar wanted old now audit → ReadOnce now next piece End
+    → ((topology : Topology) (text : List ℕ) → Audits topology text audit → verdict ≡ verdict_in topology text) → ((topology : Topology) (text : List ℕ) → IsSound topology → Audits topology text audit → IsSaid topology text verdict)
+    → ReadsSource (found_by verdict) wanted old next
+end_read wanted old now next audit piece verdict sound so_far once is said =
+    read_none (found_by verdict) wanted old now next audit so_far once.same_telling (λ t. let bytes = once.bytes t in (bytes.1 ∙ sym bytes.0, bytes.2))
+    (λ came audits few t. found_whole wanted came next.left verdict (once.bytes t).1 few (is wanted came audits) (said wanted came sound audits))
+    (caused_by verdict old.faults next.faults old.waits next.waits)
 
 -- ---- the source given back
 
@@ -157,7 +226,7 @@ journal_read old middle new name copy wanted opened result x same o given j = su
 })
 
 -- it was not
-pub journal_failed : {T : Type 0} (old new : EdgesSeen) (name copy : List ℕ) (wanted : Topology) → copy ≡ name → Opens {T = T} SourceKind copy old new (Err Failed) → ReadsJournal old new name wanted (Err (Edge copy))
+pub journal_failed : {T : Type 0} (old new : EdgesSeen) (name copy : List ℕ) (wanted : Topology) → copy ≡ name → Opens {T = T} SourceKind copy old new (Err edge.Failed) → ReadsJournal old new name wanted (Err (Edge copy))
 journal_failed old new name copy wanted same o = record {
   comes = (same, o.cause);
   asked_by = λ t. o.asked t ∙ ap (λ (n : List ℕ). old.asked ++ (SourceKind, n) ∷ []) same;
@@ -166,7 +235,7 @@ journal_failed old new name copy wanted same o = record {
   sinks = o.sinks;
 }
 
-pub journal_wanting : {T : Type 0} (old new : EdgesSeen) (name copy : List ℕ) (wanted : Topology) → Opens {T = T} SourceKind copy old new (Err OutOfMemory) → ReadsJournal old new name wanted (Err Memory)
+pub journal_wanting : {T : Type 0} (old new : EdgesSeen) (name copy : List ℕ) (wanted : Topology) → Opens {T = T} SourceKind copy old new (Err edge.OutOfMemory) → ReadsJournal old new name wanted (Err Memory)
 journal_wanting old new name copy wanted o = record {
   comes = tt;
   asked_by = λ t. record { count = 0; is = o.asked t ∙ sym (append-nil old.asked) };

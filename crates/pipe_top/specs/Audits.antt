@@ -5,7 +5,7 @@ use Rattle.pipe_types.specs.declared.topology.Topology.{Topology}
 use Rattle.stage_bodies.specs.Seen.{SourceSeen}
 use Rattle.edge_names.specs.Seen.{EdgesSeen}
 use Rattle.edge_names.specs.Named.{GivesSource}
-use Rattle.run_verdicts.specs.Judged.{Summary, Legal, Bad, verdict_in, IsLegalText}
+use Rattle.run_verdicts.specs.Judged.{Summary, Judgement, Legal, Bad, verdict_in, IsLegalText}
 use Rattle.run_verdicts.specs.declared.audits.AuditFault.{AuditFault}
 use Rattle.run_verdicts.specs.declared.audits.AuditFault.TheVariants.{Line, Large, Wait, Source}
 
@@ -25,6 +25,11 @@ IsFound wanted taken left (Err (Line line cause)) = IsWhole taken left × (verdi
 IsFound wanted taken left (Err Large) = most_bytes < length taken
 IsFound wanted taken left (Err Wait) = length taken ≤ most_bytes
 IsFound wanted taken left (Err Source) = length taken ≤ most_bytes
+
+-- what a verdict on the whole text comes to
+abbrev pub found_by : Judgement → Result Summary AuditFault
+found_by (Legal summary) = Ok summary
+found_by (Bad line cause) = Err (Line line cause)
 
 -- a read failed only where the faults rose, and nothing was ready only where the waits rose
 abbrev pub FaultHasCause : (faults faults' waits waits' : ℕ) → Result Summary AuditFault → Type 0

@@ -17,13 +17,12 @@ use Rattle.edge_names.specs.Supplies.{Feed}
 use Rattle.topology_needs.specs.Needs.{subscriptions_of}
 use Rattle.topology_needs.specs.declared.stock.Boxes.{Boxes}
 use Rattle.topology_needs.specs.declared.stock.Shortage.{Shortage}
-use Rattle.run_verdicts.specs.Judged.{Summary, Legal, Bad, verdict_in, IsLegalText}
+use Rattle.run_verdicts.specs.Judged.{Summary}
 use Rattle.pipe_top.specs.Audits.{IsAuditOf, IsFound, FaultHasCause, MayBeBack}
 use Rattle.pipe_top.specs.Cases.{Feeding, Named, Filed, MadeFrom, origin_of, Case, NoCommand, NoTopology as BadTopology, TooFew, Checks, Upgrades, Audits, Rejects, Runs, audit_case, case_of, calls_of, file_name, IsNamedFile}
 use Rattle.run_verdicts.specs.Audits.{legal_text}
 use Rattle.run_verdicts.specs.Verdicts.{whole_text, status_in}
 use Rattle.run_verdicts.specs.declared.audits.AuditFault.{AuditFault}
-use Rattle.run_verdicts.specs.declared.audits.AuditFault.TheVariants.{Line}
 use Rattle.stage_bodies.specs.Seen.{SourceSeen}
 use Rattle.pipe_run.specs.Whole.{HasCome}
 use Rattle.journal_texts.specs.Report.{status_of}
@@ -227,13 +226,6 @@ abbrev pub UpgradesTo : (expected : Result Topology ConfigFault) → (file : Lis
 UpgradesTo expected file result = ReadsTopology expected [] ⊥ (topology_beside result) × IsTextOf file result
 
 -- ---- the journal
-
--- what the text comes to
-abbrev pub JudgesText : (wanted : Topology) → (text : List ℕ) → Result Summary Refusal → Type 0
-JudgesText wanted text (Ok summary) = (verdict_in wanted text ≡ Legal summary) × IsLegalText wanted text summary
-JudgesText wanted text (Err (Audit (Line line cause))) = verdict_in wanted text ≡ Bad line cause
-JudgesText wanted text (Err Memory) = Unit {0}
-JudgesText wanted text (Err _) = ⊥
 
 -- the source was read, and this was found of what it told
 pub record ReadsSource (end : Result Summary AuditFault) (wanted : Topology) (old new : SourceSeen) : Type 0 where

@@ -5,36 +5,63 @@ ghost use Rattle.pipe_types.specs.Sound.{IsSound};
 ghost use Rattle.pipe_edges.specs.declared.edges.EdgeKind.TheVariants.{Source};
 ghost use Rattle.edge_names.specs.Named.{GivesSource, Opens, BacksSource};
 ghost use Rattle.run_verdicts.specs.Verdicts.{CanBeShown};
-ghost use Rattle.pipe_top.specs.Flows.{IsAuditedOrNot, JudgesText, JudgesSource, JudgesOpened, ReadsJournal};
+ghost use Rattle.pipe_top.specs.{Audits.{found_by}, Flows.{IsAuditedOrNot, ReadsSource, JudgesSource, JudgesOpened, ReadsJournal}};
 
 use crate::file::text_of;
 use crate::run::{Ran, refused};
 use edge_names::{SeenEdges, SeenSource};
-use pipe_edges::{ByteSource, EdgeEnd, Edges, WholeRead, read_all};
+use pipe_edges::{ByteSource, EdgeEnd, Edges, ReadEnd};
 use pipe_journal::Journal;
-use pipe_types::bytes::{Bytes, Text};
+use pipe_types::bytes::Text;
 use pipe_types::topology::Topology;
-use run_verdicts::{AuditFault, Judgement, Refusal, Summary, Texts, Verdict, audit, legal_text};
+use run_verdicts::{AuditFault, Auditing, Judgement, Refusal, Summary, Texts, Verdict, legal_text};
 use std::alloc::{AllocError, Global};
 
 /// As many bytes as a journal may have.
 const MOST_BYTES: u64 = 268_435_456;
 
-/// What the text comes to.
-fn judge_text(alloc: Global, topology: &Topology, bytes: &Bytes) -> Result<Summary, Refusal>
-    requires sound { IsSound topology.now }
-    ensures { JudgesText topology.now bytes.now result }
+/// As many bytes as a read is offered.
+const PIECE: usize = 8192;
+
+/// What a verdict comes to.
+fn found(verdict: Judgement) -> Result<Summary, AuditFault>
+    ensures { result ≡ found_by verdict }
 {
-    match audit(alloc, topology, bytes.as_slice()) {
-        Ok(Judgement::Legal(summary)) => Ok(summary),
-        Ok(Judgement::Bad { line, cause }) => {
-            Err(Refusal::Audit(AuditFault::Line { line, cause }))
-        }
-        Err(_) => Err(Refusal::Memory),
+    match verdict {
+        Judgement::Legal(summary) => Ok(summary),
+        Judgement::Bad { line, cause } => Err(AuditFault::Line { line, cause }),
     }
 }
 
-/// Reads the source to its end, and judges what came.
+/// Reads the source to its end, each time into one piece, and judges the lines as they come. It keeps the line that has not ended
+/// and no other text. What the lines come to is told only behind the last of them.
+fn read_source<B: ByteSource>(
+    alloc: Global,
+    topology: &Topology,
+    source: &mut B,
+) -> Result<Result<Summary, AuditFault>, AllocError>
+    requires sound { IsSound topology.now }
+    ensures { IfOk result (λ end. ReadsSource end topology.now (⟦<B as SeenSource>⟧.seen source.old) (⟦<B as SeenSource>⟧.seen source.new)) }
+{
+    let mut audit = Auditing::new(alloc, topology)?;
+    let mut piece = Vec::new(alloc);
+    piece.resize(PIECE, 0)?;
+    loop {
+        match source.read(&mut piece) {
+            ReadEnd::Got(n) => {
+                if audit.read() + n as u64 > MOST_BYTES {
+                    return Ok(Err(AuditFault::Large));
+                }
+                audit = audit.push(&piece[..n])?;
+            }
+            ReadEnd::End => return Ok(found(audit.verdict())),
+            ReadEnd::Failed => return Ok(Err(AuditFault::Source)),
+            ReadEnd::Empty => return Ok(Err(AuditFault::Wait)),
+        }
+    }
+}
+
+/// The same, as a refusal.
 fn judge_source<B: ByteSource>(
     alloc: Global,
     topology: &Topology,
@@ -43,11 +70,9 @@ fn judge_source<B: ByteSource>(
     requires sound { IsSound topology.now }
     ensures { JudgesSource topology.now (⟦<B as SeenSource>⟧.seen source.old) (⟦<B as SeenSource>⟧.seen source.new) result }
 {
-    match read_all(alloc, source, MOST_BYTES) {
-        Ok(WholeRead::All(bytes)) => judge_text(alloc, topology, &bytes),
-        Ok(WholeRead::Large) => Err(Refusal::Audit(AuditFault::Large)),
-        Ok(WholeRead::Empty) => Err(Refusal::Audit(AuditFault::Wait)),
-        Ok(WholeRead::Failed) => Err(Refusal::Audit(AuditFault::Source)),
+    match read_source(alloc, topology, source) {
+        Ok(Ok(summary)) => Ok(summary),
+        Ok(Err(fault)) => Err(Refusal::Audit(fault)),
         Err(_) => Err(Refusal::Memory),
     }
 }

@@ -2,4 +2,6 @@
 pub use Rattle.journal_audit.specs.declared.verdict.Summary.{Summary}
 pub use Rattle.journal_audit.specs.declared.verdict.Verdict.{Verdict as Judgement}
 pub use Rattle.journal_audit.specs.declared.verdict.Verdict.TheVariants.{Legal, Bad}
-pub use Rattle.journal_audit.specs.Verdicts.{verdict_in, IsLegalText}
+pub use Rattle.journal_audit.specs.Verdicts.{verdict_in, IsLegalText, IsSaid}
+pub use Rattle.journal_audit.specs.AuditSeen.{AuditSeen}
+pub use Rattle.journal_audit.specs.Pieces.{Audits}

@@ -11,6 +11,6 @@ mod texts;
 mod verdict;
 
 pub use audits::{AuditFault, legal_text};
-pub use journal_audit::{Summary, Verdict as Judgement, audit};
+pub use journal_audit::{Auditing, Summary, Verdict as Judgement};
 pub use texts::{places_of, texts_of};
 pub use verdict::{Refusal, Shows, Texts, Verdict, write_verdict};

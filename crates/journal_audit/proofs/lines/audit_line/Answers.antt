@@ -19,7 +19,9 @@ returns-in-End-clause-found c =
 
 pub returns-in_ok-cause_of-in-Bad-clause-found : goal.returns-in_ok-cause_of-in-Bad-clause-found
 returns-in_ok-cause_of-in-Bad-clause-found c =
-    let run = c.args.run.now in
-    worst_line run.topology run.steps c.args.line.now c.in-Bad.fault c.in_ok-cause_of-in-Bad.field-0
-    (sym c.in-Bad.is ∙ read_here run c.journal.result.now.steps c.len-steps.result c.args.line.now c.in_ok-read.read c.in_ok-read.ensures c.len-steps.ensures c.journal.ensures.steps c.journal.ensures.legal)
-    c.in_ok-cause_of-in-Bad.ensures
+    let run = c.args.run.now in (
+      refl,
+      worst_line run.topology run.steps c.args.line.now c.in-Bad.fault c.in_ok-cause_of-in-Bad.field-0
+          (sym c.in-Bad.is ∙ read_here run c.journal.result.now.steps c.len-steps.result c.args.line.now c.in_ok-read.read c.in_ok-read.ensures c.len-steps.ensures c.journal.ensures.steps c.journal.ensures.legal)
+          c.in_ok-cause_of-in-Bad.ensures,
+    )
