@@ -1,18 +1,18 @@
 -- Rows of places, and what a write to one makes of the others.
 use Rattle.std.proofs.Common.{◌≡◌, ◌≢◌, ℕ, zero, suc, ◌+◌, ◌-◌, ◌<◌, ◌≤◌, List, [], ◌∷◌, ◌++◌, length, map, Bool, true, false, refl, ap, sym, ◌∙◌, subst, Some, None, Option, arith, inl, inr, set, get_or}
-use Rattle.std.specs.Prelude.{slice_get, sum_by, unwrap_or, ◌==◌, ◌⊎◌}
+use Rattle.std.specs.Prelude.{slice_get, sum_by, unwrap_or, is_some, IfSome, ◌==◌, ◌⊎◌}
 use Rattle.std.proofs.lemmas.Bool.Decides.{nat_tests}
 use Rattle.std.proofs.lemmas.Bool.{false≢true}
 use Rattle.std.proofs.lemmas.List.{length-set, length-append, map-set, map-append, get_or-set_same, get_or-set_other, get_or_append_left}
 use Rattle.std.proofs.lemmas.List.Sums.{sum_by-set, sum_by-append}
-use Rattle.std.proofs.lemmas.Option.{slice_get_within, get_or_from_slice_get}
+use Rattle.std.proofs.lemmas.Option.{slice_get_within, slice_get-get_or, get_or_from_slice_get}
 use Rattle.std.proofs.Math.Seq.{get_or-append_seam}
 use Rattle.pipe_types.specs.declared.message.Place.{Place}
 use Rattle.pipe_types.specs.declared.message.Place.TheVariants.{Acked}
 use Rattle.pipe_types.specs.declared.message.Outcome.{Outcome}
 use Rattle.core_tables.specs.declared.place_table.Spot.{Spot}
 use Rattle.core_tables.specs.declared.place_table.Standing.{Standing}
-use Rattle.core_tables.specs.Placed.{placed, failure_of, seen, is_failed, unused, IsHeld, AreKept}
+use Rattle.core_tables.specs.Placed.{placed, failure_of, seen, is_failed, is_acknowledged, unused, IsSplit, IsHeld, AreKept}
 use Rattle.core_tables.proofs.Tables.{get-set_same, get-set_other, same_or_other}
 
 same_value : {A : Type 0} (a b : A) → Some a ≡ Some b → a ≡ b
@@ -35,7 +35,7 @@ row_more (row ∷ rows) new zero a is = inl is
 row_more (row ∷ rows) new (suc i) a is = row_more rows new i a is
 
 -- where the row that was written has the place of the one before among the failures, or one that none had
-pub kept_set : (failures later : List Outcome) (rows : List Standing) (at : ℕ) (old new : Standing) → AreKept failures rows → at < length rows → slice_get rows at ≡ Some old
+kept_set : (failures later : List Outcome) (rows : List Standing) (at : ℕ) (old new : Standing) → AreKept failures rows → at < length rows → slice_get rows at ≡ Some old
     → length failures ≤ length later → IsHeld (length later) new → (new.failure ≡ old.failure) ⊎ (length failures < new.failure) → length later + unused new ≤ length failures + unused old
     → AreKept later (set rows at new)
 kept_set failures later rows at old new x within was more holds own few =
@@ -131,7 +131,7 @@ same_placed h k (Spot.Overflow s) same = refl
 
 -- What a failure makes of the places
 
-pub seen_again : (failures : List Outcome) (rows : List Standing) (at : ℕ) (old : Standing) (how : Outcome) → AreKept failures rows → at < length rows → slice_get rows at ≡ Some old → 1 ≤ old.failure
+seen_again : (failures : List Outcome) (rows : List Standing) (at : ℕ) (old : Standing) (how : Outcome) → AreKept failures rows → at < length rows → slice_get rows at ≡ Some old → 1 ≤ old.failure
     → map (seen (set failures (old.failure - 1) how)) (set rows at (record { spot = Spot.Failed; failure = old.failure })) ≡ set (map (seen failures) rows) at (Acked how)
 seen_again failures rows at old how x within was least =
     seen_set (seen failures) (seen (set failures (old.failure - 1) how)) rows at (record { spot = Spot.Failed; failure = old.failure }) (Acked how) within
@@ -143,7 +143,7 @@ seen_again failures rows at old how x within was least =
         get_or-set_other failures (old.failure - 1) (row.failure - 1) how Outcome.Successful
         (λ e. other (x.apart j at row old there was some (omega (arith, e, some, least))))
 
-pub seen_first : (failures : List Outcome) (rows : List Standing) (at : ℕ) (old : Standing) (how : Outcome) → AreKept failures rows → at < length rows → slice_get rows at ≡ Some old
+seen_first : (failures : List Outcome) (rows : List Standing) (at : ℕ) (old : Standing) (how : Outcome) → AreKept failures rows → at < length rows → slice_get rows at ≡ Some old
     → map (seen (failures ++ how ∷ [])) (set rows at (record { spot = Spot.Failed; failure = length failures + 1 })) ≡ set (map (seen failures) rows) at (Acked how)
 seen_first failures rows at old how x within was =
     seen_set (seen failures) (seen (failures ++ how ∷ [])) rows at (record { spot = Spot.Failed; failure = length failures + 1 }) (Acked how) within
@@ -155,3 +155,74 @@ seen_first failures rows at old how x within was =
 
     elsewhere : (row : Standing) → 1 ≤ row.failure → row.failure ≤ length failures → failure_of (failures ++ how ∷ []) row.failure ≡ failure_of failures row.failure
     elsewhere row least most = get_or_append_left failures (how ∷ []) Outcome.Successful (row.failure - 1) (omega (arith, least, most))
+
+-- What the writes leave
+
+-- a table is kept, and has this place there
+abbrev pub IsWritten : (failures : List Outcome) (rows : List Standing) → (before : List Place) → (at : ℕ) → Place → Type 0
+IsWritten failures rows before at place = AreKept failures rows × (map (seen failures) rows ≡ set before at place)
+
+written : (failures later : List Outcome) (rows new : List Standing) (before : List Place) (at : ℕ) (place : Place) → later ≡ failures → new ≡ rows → IsWritten failures rows before at place → IsWritten later new before at place
+written failures later rows new before at place same also is =
+    subst (λ (fs : List Outcome). IsWritten fs new before at place) (sym same) (subst (λ (rs : List Standing). IsWritten failures rs before at place) (sym also) is)
+
+pub fails_first : (failures later : List Outcome) (rows new : List Standing) (at : ℕ) (old : Standing) (how : Outcome) → AreKept failures rows → at < length rows → slice_get rows at ≡ Some old → old.failure ≡ 0
+    → later ≡ failures ++ how ∷ [] → new ≡ set rows at (record { spot = Spot.Failed; failure = length failures + 1 }) → IsWritten later new (map (seen failures) rows) at (Acked how)
+fails_first failures later rows new at old how x within was none same also =
+    written (failures ++ how ∷ []) later (set rows at row) new (map (seen failures) rows) at (Acked how) same also
+    (kept_set failures (failures ++ how ∷ []) rows at old row x within was (omega (arith, more)) (record { most = omega (arith, more); least = λ e. omega arith }) (inr (omega arith)) (omega (arith, more, one)), seen_first failures rows at old how x within was)
+  where
+    row : Standing
+    row = record { spot = Spot.Failed; failure = length failures + 1 }
+
+    more : length (failures ++ how ∷ []) ≡ length failures + 1
+    more = length-append failures (how ∷ [])
+
+    one : (unused old ≡ 1) × (unused row ≡ 0)
+    one = (grind (arith, nat_tests, none), grind (arith, nat_tests))
+
+pub fails_again : (failures later : List Outcome) (rows new : List Standing) (at : ℕ) (old : Standing) (how : Outcome) → AreKept failures rows → at < length rows → slice_get rows at ≡ Some old → 1 ≤ old.failure
+    → later ≡ set failures (old.failure - 1) how → new ≡ set rows at (record { spot = Spot.Failed; failure = old.failure }) → IsWritten later new (map (seen failures) rows) at (Acked how)
+fails_again failures later rows new at old how x within was least same also =
+    written (set failures (old.failure - 1) how) later (set rows at row) new (map (seen failures) rows) at (Acked how) same also
+    (kept_set failures (set failures (old.failure - 1) how) rows at old row x within was (omega (arith, many)) (record { most = omega (arith, many, (x.held at old was).most); least = λ e. least }) (inl refl) (omega (arith, many)), seen_again failures rows at old how x within was least)
+  where
+    row : Standing
+    row = record { spot = Spot.Failed; failure = old.failure }
+
+    many : length (set failures (old.failure - 1) how) ≡ length failures
+    many = length-set failures (old.failure - 1) how
+
+pub puts_spot : (failures : List Outcome) (rows new : List Standing) (at : ℕ) (spot : Spot) (place : Place) → AreKept failures rows → at < length rows
+    → IfSome (slice_get rows at) (λ row. new ≡ set rows at (record { spot = spot; failure = row.failure })) → IsSplit place spot None → IsWritten failures new (map (seen failures) rows) at place
+puts_spot failures rows new at spot place x within is split = by (slice_get rows at) refl is
+  where
+    by : (o : Option Standing) → slice_get rows at ≡ o → IfSome o (λ row. new ≡ set rows at (record { spot = spot; failure = row.failure })) → IsWritten failures new (map (seen failures) rows) at place
+    by None was is = absurd (false≢true (ap is_some (sym was ∙ slice_get-get_or rows at (record { spot = spot; failure = 0 }) within)))
+    by (Some old) was is =
+        let row : Standing = record { spot = spot; failure = old.failure } in
+        written failures failures (set rows at row) new (map (seen failures) rows) at place refl is (
+          kept_set failures failures rows at old row x within was (omega arith) (record { most = (x.held at old was).most; least = λ e. absurd (false≢true (sym split.0 ∙ e)) }) (inl refl) (omega arith),
+          map-set (seen failures) rows at row ∙ ap (set (map (seen failures) rows) at) (split.1 (failure_of failures old.failure)),
+        )
+
+-- what did not end so is in no spot of what failed
+pub unfailed : (place : Place) (spot : Spot) (how : Option Outcome) → IsSplit place spot how → is_acknowledged place ≡ false → is_failed spot ≡ false
+unfailed place spot None is other = is.0
+unfailed place spot (Some how) is other = absurd (false≢true (sym other ∙ ap is_acknowledged (sym is.1)))
+
+-- a reason has a row, so a row without one leaves room for one more
+pub few_failures : (failures : List Outcome) (rows : List Standing) (at : ℕ) (old : Standing) → AreKept failures rows → at < length rows → slice_get rows at ≡ Some old → old.failure ≡ 0 → length failures + 1 ≤ length rows
+few_failures failures rows at old x within was none =
+    let sum = sum_by-set unused rows at (record old { failure = 1 }) old within in
+    let one : unused (get_or rows at old) ≡ 1 = ap unused (get_or_from_slice_get rows at old old was) ∙ free in
+    omega (arith, x.few, sum, one, taken)
+  where
+    free : unused old ≡ 1
+    free = grind (arith, nat_tests, none)
+
+    taken : unused (record old { failure = 1 }) ≡ 0
+    taken = refl
+
+pub kept_none : AreKept [] []
+kept_none = record { held = λ i a is. absurd (omega (arith, slice_get_within [] i a is)); apart = λ i j a b ia jb least same. absurd (omega (arith, slice_get_within [] i a ia)); few = omega arith }
