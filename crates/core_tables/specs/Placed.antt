@@ -66,3 +66,8 @@ pub record AreKept (failures : List Outcome) (rows : List Standing) : Type 0 whe
   pub held : (i : ℕ) (a : Standing) → slice_get rows i ≡ Some a → IsHeld (length failures) a
   pub apart : (i j : ℕ) (a b : Standing) → slice_get rows i ≡ Some a → slice_get rows j ≡ Some b → 1 ≤ a.failure → a.failure ≡ b.failure → i ≡ j
   pub few : length failures + sum_by unused rows ≤ length rows
+
+-- why a message failed that stands there
+abbrev pub reason_in : Place → Option (List ℕ)
+reason_in (Place.Acked (Outcome.Failed why)) = Some why
+reason_in place = None

@@ -1,8 +1,8 @@
 //! Where the messages stand, a row each. How a message failed stands apart, so that a row takes 20 bytes and not 68.
 
-ghost use Rattle.std.specs.Prelude.{◌≡◌, ◌+◌, ◌-◌, ◌∷◌, [], ◌++◌, ◌≤◌, ◌<◌, ◌^◌, length, map, slice_get, slice_set, false, None, Some, IfSome, IfOk, OnOk, vec_len, vec_capacity};
+ghost use Rattle.std.specs.Prelude.{◌≡◌, ◌+◌, ◌-◌, ◌∷◌, [], ◌++◌, ◌≤◌, ◌<◌, ◌^◌, length, map, slice_get, slice_set, option_map, false, None, Some, IfSome, IfOk, OnOk, vec_len, vec_capacity};
 ghost use Rattle.pipe_types.specs.declared.message.{Place.TheVariants.{Acked, Lost as LostPlace}, Loss.TheVariants.{Killed as KilledLoss}};
-ghost use Rattle.core_tables.specs.Placed.{seen, failure_of, is_acknowledged, IsHeld, AreKept, IsSplit};
+ghost use Rattle.core_tables.specs.Placed.{seen, failure_of, is_acknowledged, IsHeld, AreKept, IsSplit, reason_in};
 ghost use Rattle.core_tables.specs.declared.place_table.Spot.TheVariants.{Failed as FailedSpot};
 
 use pipe_types::message::{Loss, Outcome, Place, Why};
@@ -121,6 +121,27 @@ fn place_of(failures: &[Outcome], row: Standing) -> Place
         }
         Spot::Limited(stage, from) => Place::Lost(Loss::Killed(stage, from, Why::Limit)),
         Spot::Overflow(stage) => Place::Lost(Loss::Overflow(stage)),
+    }
+}
+
+/// The reason of an outcome that is a failure.
+fn reason_of(outcome: &Outcome) -> Option<&[u8]>
+    ensures { option_map (λ reason. reason.now) result ≡ reason_in (Acked outcome.now) }
+{
+    match outcome {
+        Outcome::Failed(why) => Some(why.as_bytes()),
+        Outcome::Successful => None,
+    }
+}
+
+/// The reason of the failure that the row says.
+fn reason_at(failures: &[Outcome], row: Standing) -> Option<&[u8]>
+    requires { IsHeld (length failures.now) row }
+    ensures { option_map (λ reason. reason.now) result ≡ reason_in (seen failures.now row) }
+{
+    match row.spot {
+        Spot::Failed => reason_of(&failures[row.failure as usize - 1]),
+        _ => None,
     }
 }
 
@@ -298,6 +319,14 @@ impl PlaceTable {
         } else {
             None
         }
+    }
+
+    /// Why the message there, from 0, failed, where it failed.
+    pub fn reason(&self, at: usize) -> Option<&[u8]>
+        requires { at < length self.now.items }
+        ensures { IfSome (slice_get self.now.items at) (λ place. option_map (λ reason. reason.now) result ≡ reason_in place) }
+    {
+        reason_at(&self.failures, self.rows[at])
     }
 
     /// Puts another place there, from 0.
