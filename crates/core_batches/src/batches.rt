@@ -9,6 +9,7 @@ ghost use Rattle.core_state.specs.Stands.{closed_seen};
 ghost use Rattle.core_batches.specs.Closes.{without_open, join_in, batch_part, HasParts};
 
 use batcher::{Batcher, Closable, ClosedBatch};
+use core_tables::place_table::PlaceTable;
 use core_tables::rows::BatchRow;
 use dispatch_partition::partition_of;
 use pipe_types::message::{Place, Trigger};
@@ -86,7 +87,7 @@ pub(crate) fn close_open(
 }
 
 /// Puts each gathered message of the list into the batch.
-pub(crate) fn join_all(places: &mut Vec<Place>, numbers: &[u32], stage: StageNo, batch: BatchNo)
+pub(crate) fn join_all(places: &mut PlaceTable, numbers: &[u32], stage: StageNo, batch: BatchNo)
     requires within { All (λ n. (1 ≤ n) × (n ≤ length places.old.items)) numbers.now }
     ensures len { length places.new.items ≡ length places.old.items }
     ensures capacity { vec_capacity places.new ≡ vec_capacity places.old }
@@ -94,8 +95,8 @@ pub(crate) fn join_all(places: &mut Vec<Place>, numbers: &[u32], stage: StageNo,
 {
     for no in numbers {
         let at = (*no - 1) as usize;
-        let place = joined(places[at], stage, batch);
-        places[at] = place;
+        let place = joined(places.read(at), stage, batch);
+        places.write(at, place);
     }
 }
 

@@ -11,6 +11,7 @@ ghost use Rattle.core_laws.specs.Contents.{passed_in};
 ghost use Rattle.core_batches.specs.Rows.{with_message, handled_on};
 
 use batcher::Batcher;
+use core_tables::place_table::PlaceTable;
 use core_tables::rows::ContentRow;
 use pipe_journal::{Journal, MessageView, ReplyView};
 use pipe_types::message::Place;
@@ -38,14 +39,14 @@ pub(crate) fn drop_first(inboxes: &mut Vec<VecDeque<(SubNo, u32)>>, stage: Stage
 }
 
 /// Notes that the stage gathered the message.
-pub(crate) fn place_gathered(places: &mut Vec<Place>, stage: StageNo, no: MsgNo)
+pub(crate) fn place_gathered(places: &mut PlaceTable, stage: StageNo, no: MsgNo)
     requires least { 1 ≤ no.0 }
     requires within { no.0 ≤ length places.old.items }
     ensures placed { (i : ℕ) → slice_get places.new.items i ≡ (if no.0 == suc i then Some (Gathered stage) else slice_get places.old.items i) }
     ensures len { length places.new.items ≡ length places.old.items }
     ensures capacity { vec_capacity places.new ≡ vec_capacity places.old }
 {
-    places[no.0 as usize - 1] = Place::Gathered(stage);
+    places.write(no.0 as usize - 1, Place::Gathered(stage));
 }
 
 /// Counts units as handled, where the subscription is its pair's last one.

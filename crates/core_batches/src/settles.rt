@@ -5,10 +5,10 @@ ghost use Rattle.core_state.specs.Settles.{ended_by, marked_by, noted, AreNumber
 ghost use Rattle.core_batches.specs.Writes.{leg_place};
 
 use core_state::settles::{mark_all, note_acked, settle_all};
+use core_tables::place_table::PlaceTable;
 use core_tables::rows::BatchRow;
 use message_ack::Settled;
 use pipe_journal::Journal;
-use pipe_types::message::Place;
 use pipe_types::numbers::{StageNo, SubNo};
 
 /// How many legs of the batch in the row stand before the one on this subscription.
@@ -37,7 +37,7 @@ fn leg_on(subs: &[SubNo], sub: SubNo) -> u16
 
 /// Notes how the messages of the batch in the row ended and at which step, where the batch did.
 pub(crate) fn end_batch(
-    places: &mut Vec<Place>,
+    places: &mut PlaceTable,
     marks: &mut Vec<u64>,
     batches: &Vec<BatchRow>,
     at: usize,
@@ -59,7 +59,7 @@ pub(crate) fn end_batch(
 
 /// Notes how the messages ended and at which step, where their batch did.
 fn end_all(
-    places: &mut Vec<Place>,
+    places: &mut PlaceTable,
     marks: &mut Vec<u64>,
     numbers: &[u32],
     settled: Option<Settled>,
@@ -83,7 +83,7 @@ fn end_all(
 /// Notes those messages of the batch in the row that are acknowledged in the journal's log, as by the step at that place.
 pub(crate) fn note_batch(
     journal: &mut Journal,
-    places: &[Place],
+    places: &PlaceTable,
     producers: &[StageNo],
     batches: &Vec<BatchRow>,
     at: usize,
@@ -92,7 +92,7 @@ pub(crate) fn note_batch(
     requires there { at < length batches.now.items }
     requires least { IfSome (slice_get batches.now.items at) (λ row. All (λ n. 1 ≤ n) row.numbers.items) }
     requires room { IfSome (slice_get batches.now.items at) (λ row. length journal.old.acked.rows + length row.numbers.items ≤ journal.old.acked.room) }
-    ensures noted { IfSome (slice_get batches.now.items at) (λ row. journal.new.acked.rows ≡ journal.old.acked.rows ++ filter_map (noted places.now producers.now mark) row.numbers.items) }
+    ensures noted { IfSome (slice_get batches.now.items at) (λ row. journal.new.acked.rows ≡ journal.old.acked.rows ++ filter_map (noted places.now.items producers.now mark) row.numbers.items) }
     ensures same_room { journal.new.acked.room ≡ journal.old.acked.room }
     ensures same_steps { journal.new.steps ≡ journal.old.steps }
     ensures same_spare { journal.new.spare ≡ journal.old.spare }

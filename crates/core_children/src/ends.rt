@@ -5,6 +5,7 @@ ghost use Rattle.pipe_types.specs.declared.numbers.StageNo.{StageNo as Stage};
 ghost use Rattle.pipe_model.specs.{Flow.{child_place}, Ledger.{crashed_reply}};
 ghost use Rattle.core_tables.specs.Tables.{list_at};
 
+use core_tables::place_table::PlaceTable;
 use pipe_types::message::{Loss, Outcome, Place, Reply, Why};
 use pipe_types::numbers::StageNo;
 
@@ -33,14 +34,14 @@ pub(crate) fn place_after(again: bool, stage: StageNo, incarnation: u32, reply: 
 }
 
 /// Notes where the message with that number stands.
-pub(crate) fn put_place(places: &mut Vec<Place>, no: u32, place: Place)
+pub(crate) fn put_place(places: &mut PlaceTable, no: u32, place: Place)
     requires least { 1 ≤ no }
     requires within { no ≤ length places.old.items }
     ensures placed { (i : ℕ) → slice_get places.new.items i ≡ (if no == suc i then Some place else slice_get places.old.items i) }
     ensures len { length places.new.items ≡ length places.old.items }
     ensures capacity { vec_capacity places.new ≡ vec_capacity places.old }
 {
-    places[no as usize - 1] = place;
+    places.write(no as usize - 1, place);
 }
 
 /// The mark of a message after a run of its child: this one unless it runs again, and then 0.

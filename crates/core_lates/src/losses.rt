@@ -4,11 +4,12 @@ ghost use Rattle.std.specs.Prelude.{◌≡◌, ◌∷◌, [], ◌++◌, ◌+◌,
 ghost use Rattle.pipe_types.specs.declared.message.Place.TheVariants.{Lost};
 ghost use Rattle.pipe_model.specs.History.{bytes_in};
 
+use core_tables::place_table::PlaceTable;
 use pipe_types::bytes::Bytes;
-use pipe_types::message::{Loss, Outcome, Place};
+use pipe_types::message::{Loss, Place};
 
 /// Puts so many messages behind the others, all lost so.
-pub(crate) fn lose_new(places: &mut Vec<Place>, loss: Loss, count: u32)
+pub(crate) fn lose_new(places: &mut PlaceTable, loss: Loss, count: u32)
     requires { vec_len places.old + count ≤ vec_capacity places.old }
     ensures items { places.new.items ≡ places.old.items ++ replicate count (Lost loss) }
     ensures capacity { vec_capacity places.new ≡ vec_capacity places.old }
@@ -19,16 +20,13 @@ pub(crate) fn lose_new(places: &mut Vec<Place>, loss: Loss, count: u32)
 }
 
 /// Puts one message behind the others, lost so.
-fn push_lost(places: &mut Vec<Place>, loss: Loss)
+fn push_lost(places: &mut PlaceTable, loss: Loss)
     requires { vec_len places.old < vec_capacity places.old }
     ensures items { places.new.items ≡ places.old.items ++ Lost loss ∷ [] }
     ensures len { vec_len places.new ≡ vec_len places.old + 1 }
     ensures capacity { vec_capacity places.new ≡ vec_capacity places.old }
 {
-    // the toolchain loses the type of an outcome in a push of a place where the function does not name it
-    let outcome = Outcome::Successful;
-    let _ = outcome;
-    places.push_reserved(Place::Lost(loss));
+    places.push(Place::Lost(loss));
 }
 
 /// How many bytes the records have.

@@ -8,12 +8,13 @@ ghost use Rattle.core_deaths.specs.Reasons.{reason_at};
 ghost use Rattle.core_losses.specs.{Losses.{incarnation_at, loss_in}, Legs.{LegsSeen}};
 ghost use Rattle.core_losses.specs.Batches.{drop_at, drop_in, drop_due, drop_of, BatchSeen, BatchesSeen, batch_lost, fate_legs, ended_in, marked_in, after_kill, left_batch};
 
+use core_tables::place_table::PlaceTable;
 use crate::ends::end_all;
 use crate::legs::lose_legs;
 use crate::messages::loss_of;
 use core_tables::rows::{BatchRow, PostRow, StageRow};
 use message_ack::{Legs, Settled};
-use pipe_types::message::{Loss, Place, Why};
+use pipe_types::message::{Loss, Why};
 use pipe_types::numbers::{BatchNo, SubNo};
 use pipe_types::topology::{Role, StageSpec};
 use std::collections::VecDeque;
@@ -109,7 +110,7 @@ fn settle_batch(
 
 /// Notes what the kill makes of the batch in the row, and of its messages.
 fn lose_batch(
-    places: &mut Vec<Place>,
+    places: &mut PlaceTable,
     marks: &mut Vec<u64>,
     legs: &mut Legs,
     row: &BatchRow,
@@ -146,7 +147,7 @@ fn lose_batch(
 /// Notes what the kill makes of each batch and of its messages: a batch that waits in a killed batcher is lost, and so is
 /// each open leg in a killed stage, and with its last open leg the batch ends.
 pub(crate) fn lose_batches(
-    places: &mut Vec<Place>,
+    places: &mut PlaceTable,
     marks: &mut Vec<u64>,
     legs: &mut Legs,
     batches: &[BatchRow],

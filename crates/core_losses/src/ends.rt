@@ -4,12 +4,12 @@ ghost use Rattle.std.specs.Prelude.{◌≡◌, ℕ, suc, length, IfSome, slice_g
 ghost use Rattle.core_state.specs.Settles.{ended_by, marked_by, AreNumbers};
 
 use core_state::settles::{mark_all, settle_all};
+use core_tables::place_table::PlaceTable;
 use message_ack::Settled;
-use pipe_types::message::Place;
 
 /// Notes how the messages ended and at which step, where their batch did.
 pub(crate) fn end_all(
-    places: &mut Vec<Place>,
+    places: &mut PlaceTable,
     marks: &mut Vec<u64>,
     numbers: &[u32],
     settled: Option<Settled>,

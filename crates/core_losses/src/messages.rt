@@ -4,6 +4,7 @@ ghost use Rattle.std.specs.Prelude.{◌≡◌, ℕ, length, option_map, slice_ge
 ghost use Rattle.core_deaths.specs.Reasons.{reason_at};
 ghost use Rattle.core_losses.specs.Losses.{incarnation_at, loss_in, loss_at, place_loss, place_lost, lost_to, marked_to};
 
+use core_tables::place_table::PlaceTable;
 use core_tables::rows::StageRow;
 use pipe_types::message::{Loss, Place, Why};
 use pipe_types::numbers::StageNo;
@@ -53,7 +54,7 @@ fn marked(old: u64, loss: Option<Loss>, mark: u64) -> u64
 
 /// Notes that each message that stands in a killed stage is lost, and at which step.
 pub(crate) fn lose_messages(
-    places: &mut Vec<Place>,
+    places: &mut PlaceTable,
     marks: &mut Vec<u64>,
     rows: &[StageRow],
     killed: &[Option<Why>],
@@ -69,8 +70,9 @@ pub(crate) fn lose_messages(
     ensures marks_capacity { vec_capacity marks.new ≡ vec_capacity marks.old }
 {
     for at in 0..places.len() {
-        let loss = loss_of_place(rows, killed, places[at]);
-        places[at] = lost(places[at], loss);
+        let place = places.read(at);
+        let loss = loss_of_place(rows, killed, place);
+        places.write(at, lost(place, loss));
         marks[at] = marked(marks[at], loss, mark);
     }
 }

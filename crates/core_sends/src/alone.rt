@@ -4,6 +4,7 @@ ghost use Rattle.std.specs.{Prelude.{◌≡◌, ℕ, suc, ◌+◌, ◌++◌, ◌
 ghost use Rattle.core_tables.specs.Tables.{spare_in};
 ghost use Rattle.core_sends.specs.{Losing.{marked}, Batches.{not_sent, numbers_of, succeeded, all_succeeded, all_marked, lone_of, alone_in, served_alone, success, IsEndable}};
 
+use core_tables::place_table::PlaceTable;
 use crate::leaving::keep_unsent;
 use core_state::settles::{mark_all, note_row};
 use core_tables::rows::BatchRow;
@@ -14,7 +15,7 @@ use pipe_types::numbers::{BatchNo, StageNo};
 use std::collections::VecDeque;
 
 /// Notes a success for each of these messages.
-fn succeed_all(places: &mut Vec<Place>, numbers: &[u32])
+fn succeed_all(places: &mut PlaceTable, numbers: &[u32])
     requires within { All (λ n. (1 ≤ n) × (n ≤ length places.old.items)) numbers.now }
     ensures len { length places.new.items ≡ length places.old.items }
     ensures placed { (i : ℕ) → slice_get places.new.items i ≡ option_map (succeeded numbers.now (suc i)) (slice_get places.old.items i) }
@@ -22,13 +23,13 @@ fn succeed_all(places: &mut Vec<Place>, numbers: &[u32])
 {
     for no in numbers {
         let at = (*no - 1) as usize;
-        places[at] = Place::Acked(Outcome::Successful);
+        places.write(at, Place::Acked(Outcome::Successful));
     }
 }
 
 /// Notes a success for each message of the batch in the row, and the step that settled it.
 fn succeed(
-    places: &mut Vec<Place>,
+    places: &mut PlaceTable,
     settled: &mut Vec<u64>,
     batches: &Vec<BatchRow>,
     at: usize,
@@ -51,7 +52,7 @@ fn succeed(
 /// Takes the first batch out of the queue. Where it was not sent, its messages are successes.
 fn pass_served(
     queue: &mut VecDeque<(u32, u32)>,
-    places: &mut Vec<Place>,
+    places: &mut PlaceTable,
     settled: &mut Vec<u64>,
     batches: &Vec<BatchRow>,
     legs: &Legs,
@@ -81,7 +82,7 @@ fn pass_served(
 /// are successes; and of the others those that were sent, which stand among the first so many.
 pub(crate) fn leave_batches(
     queue: &mut VecDeque<(u32, u32)>,
-    places: &mut Vec<Place>,
+    places: &mut PlaceTable,
     settled: &mut Vec<u64>,
     batches: &Vec<BatchRow>,
     legs: &Legs,

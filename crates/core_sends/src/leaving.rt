@@ -4,6 +4,7 @@ ghost use Rattle.std.specs.{Prelude.{◌≡◌, ℕ, ◌<◌, ◌≤◌, ◌++�
 ghost use Rattle.core_tables.specs.Tables.{spare_in};
 ghost use Rattle.core_sends.specs.{Batches.{not_sent}, Losing.{still_waits, first_kept, passed}};
 
+use core_tables::place_table::PlaceTable;
 use message_ack::Legs;
 use pipe_types::message::Place;
 use pipe_types::numbers::{BatchNo, StageNo};
@@ -26,13 +27,13 @@ pub(crate) fn reach(units: &[Sent]) -> usize
 /// The others keep their order.
 pub(crate) fn keep_waiting(
     queue: &mut VecDeque<(u32, u32)>,
-    places: &[Place],
+    places: &PlaceTable,
     stage: StageNo,
     first: usize,
 )
     requires within { first ≤ length queue.old.items }
-    requires rest { All (λ unit. still_waits places.now stage unit.1 ≡ true) (drop first queue.old.items) }
-    ensures items { queue.new.items ≡ filter (λ unit. still_waits places.now stage unit.1) queue.old.items }
+    requires rest { All (λ unit. still_waits places.now.items stage unit.1 ≡ true) (drop first queue.old.items) }
+    ensures items { queue.new.items ≡ filter (λ unit. still_waits places.now.items stage unit.1) queue.old.items }
     ensures room { spare_in (Some queue.old) ≤ spare_in (Some queue.new) }
 {
     let mut kept = 0;
@@ -44,9 +45,9 @@ pub(crate) fn keep_waiting(
 }
 
 /// Takes the first unit out of the queue, and puts it behind the others where it waits in the stage.
-fn pass(queue: &mut VecDeque<(u32, u32)>, places: &[Place], stage: StageNo) -> bool
-    ensures items { queue.new.items ≡ passed (still_waits places.now stage) queue.old.items }
-    ensures kept { result ≡ first_kept (still_waits places.now stage) queue.old.items }
+fn pass(queue: &mut VecDeque<(u32, u32)>, places: &PlaceTable, stage: StageNo) -> bool
+    ensures items { queue.new.items ≡ passed (still_waits places.now.items stage) queue.old.items }
+    ensures kept { result ≡ first_kept (still_waits places.now.items stage) queue.old.items }
     ensures room { spare_in (Some queue.old) ≤ spare_in (Some queue.new) }
 {
     let Some(unit) = queue.pop_front() else {
@@ -60,8 +61,8 @@ fn pass(queue: &mut VecDeque<(u32, u32)>, places: &[Place], stage: StageNo) -> b
 }
 
 /// Whether the message with that number waits in the stage.
-fn does_wait(places: &[Place], stage: StageNo, no: u32) -> bool
-    ensures { result ≡ still_waits places.now stage no }
+fn does_wait(places: &PlaceTable, stage: StageNo, no: u32) -> bool
+    ensures { result ≡ still_waits places.now.items stage no }
 {
     let at = (no as usize).saturating_sub(1);
     match places.get(at) {

@@ -4,6 +4,7 @@ ghost use Rattle.std.specs.Prelude.{◌≡◌, ℕ, suc, ◌≤◌, ◌<◌, len
 ghost use Rattle.core_tables.specs.Tables.{spare_in};
 ghost use Rattle.core_sends.specs.Losing.{lost_in, lost_over_size, marked, over_from, over_to, between, outside};
 
+use core_tables::place_table::PlaceTable;
 use pipe_types::message::{Loss, Place};
 use pipe_types::numbers::StageNo;
 use pipe_types::topology::Keep;
@@ -33,7 +34,7 @@ pub(crate) fn end_over(size: Option<u32>, keep: Keep, len: usize) -> usize
 
 /// Notes that the messages from one place of the stage's queue to another are lost over its size.
 pub(crate) fn lose_all(
-    places: &mut Vec<Place>,
+    places: &mut PlaceTable,
     stage: StageNo,
     queue: &VecDeque<(u32, u32)>,
     from: usize,
@@ -48,8 +49,8 @@ pub(crate) fn lose_all(
 {
     for k in from..to {
         let at = (queue[k].1 - 1) as usize;
-        let place = lost(places[at], stage);
-        places[at] = place;
+        let place = lost(places.read(at), stage);
+        places.write(at, place);
     }
 }
 

@@ -7,6 +7,7 @@ ghost use Rattle.core_tables.specs.Tables.{named, spare_in, HasRoom};
 ghost use Rattle.core_state.specs.Stands.{Holds, Stands};
 ghost use Rattle.core_sends.specs.{Losing.{still_waits, left_in, numbers_in, over_of, kept_of, lost_over_size, marked}, Rooms.{planned, served_first}};
 
+use core_tables::place_table::PlaceTable;
 use crate::alone::{leave_batches, note_alone};
 use crate::batches::begin_all;
 use crate::counting::count_all;
@@ -16,7 +17,6 @@ use crate::plans::{make_room, plan, plan_batches};
 use core_state::{Core, MOST_DUE};
 use core_tables::inboxes::deliver_all;
 use core_tables::places::place_all;
-use pipe_types::message::Place;
 use pipe_types::numbers::StageNo;
 use pipe_types::room::Sent;
 use pipe_types::step::Step;
@@ -42,7 +42,7 @@ fn name_units(units: &mut Vec<Sent>, waiting: &VecDeque<(u32, u32)>)
 /// among the first so many.
 fn leave(
     queue: &mut VecDeque<(u32, u32)>,
-    places: &mut Vec<Place>,
+    places: &mut PlaceTable,
     settled: &mut Vec<u64>,
     stage: StageNo,
     first: usize,

@@ -6,6 +6,7 @@ ghost use Rattle.core_state.specs.Stands.{Stands};
 
 use crate::state::{Core, MOST_DUE};
 use crate::tables::new_tables;
+use core_tables::place_table::PlaceTable;
 use core_tables::rows::Totals;
 use message_ack::Legs;
 use pipe_journal::Journal;
@@ -60,7 +61,7 @@ impl Core {
                 chunks: tables.chunks,
                 batchers: tables.batchers,
                 children: tables.children,
-                places: Vec::new(alloc),
+                places: PlaceTable::new(alloc),
                 settled: Vec::new(alloc),
                 producers: Vec::new(alloc),
                 contents: Vec::new(alloc),

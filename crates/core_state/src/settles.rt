@@ -5,13 +5,14 @@ ghost use Rattle.pipe_types.specs.declared.message.Outcome.TheVariants.{Successf
 ghost use Rattle.core_laws.specs.Acked.{ack_row};
 ghost use Rattle.core_state.specs.Settles.{end_at, ended_from, marked, noted};
 
+use core_tables::place_table::PlaceTable;
 use message_ack::Settled;
 use pipe_journal::{AckRow, Journal};
 use pipe_types::message::{Outcome, OutcomeList, Place};
 use pipe_types::numbers::{MsgNo, StageNo};
 
 /// Notes how each message of the batch ended.
-pub fn settle_all(places: &mut Vec<Place>, numbers: &[u32], settled: &Settled)
+pub fn settle_all(places: &mut PlaceTable, numbers: &[u32], settled: &Settled)
     requires within { All (λ n. (1 ≤ n) × (n ≤ length places.old.items)) numbers.now }
     requires apart { AllPairs (λ a b. a ≢ b) numbers.now }
     ensures len { length places.new.items ≡ length places.old.items }
@@ -20,7 +21,7 @@ pub fn settle_all(places: &mut Vec<Place>, numbers: &[u32], settled: &Settled)
 {
     for k in 0..numbers.len() {
         let at = (numbers[k] - 1) as usize;
-        places[at] = end_of(settled, k);
+        places.write(at, end_of(settled, k));
     }
 }
 
@@ -61,14 +62,14 @@ pub fn mark_all(marks: &mut Vec<u64>, numbers: &[u32], mark: u64)
 /// Notes those of these messages that are acknowledged in the journal's log, as by the step at that place.
 pub fn note_acked(
     journal: &mut Journal,
-    places: &[Place],
+    places: &PlaceTable,
     producers: &[StageNo],
     numbers: &[u32],
     at: u64,
 )
     requires least { All (λ n. 1 ≤ n) numbers.now }
     requires room { length journal.old.acked.rows + length numbers.now ≤ journal.old.acked.room }
-    ensures noted { journal.new.acked.rows ≡ journal.old.acked.rows ++ filter_map (noted places.now producers.now at) numbers.now }
+    ensures noted { journal.new.acked.rows ≡ journal.old.acked.rows ++ filter_map (noted places.now.items producers.now at) numbers.now }
     ensures same_room { journal.new.acked.room ≡ journal.old.acked.room }
     ensures same_steps { journal.new.steps ≡ journal.old.steps }
     ensures same_spare { journal.new.spare ≡ journal.old.spare }
@@ -79,16 +80,17 @@ pub fn note_acked(
 }
 
 /// Notes the message in the journal's log, where it is acknowledged, as by the step at that place.
-pub fn note_one(journal: &mut Journal, places: &[Place], producers: &[StageNo], no: u32, at: u64)
+pub fn note_one(journal: &mut Journal, places: &PlaceTable, producers: &[StageNo], no: u32, at: u64)
     requires least { 1 ≤ no }
     requires room { length journal.old.acked.rows < journal.old.acked.room }
-    ensures noted { journal.new.acked.rows ≡ journal.old.acked.rows ++ filter_map (noted places.now producers.now at) (no ∷ []) }
+    ensures noted { journal.new.acked.rows ≡ journal.old.acked.rows ++ filter_map (noted places.now.items producers.now at) (no ∷ []) }
     ensures same_room { journal.new.acked.room ≡ journal.old.acked.room }
     ensures same_steps { journal.new.steps ≡ journal.old.steps }
     ensures same_spare { journal.new.spare ≡ journal.old.spare }
 {
     let others = no as usize - 1;
-    note_row(journal, places.get(others), producers.get(others), no, at);
+    let place = places.get(others);
+    note_row(journal, place.as_ref(), producers.get(others), no, at);
 }
 
 /// Notes the message that stands so in the journal's log, where it is acknowledged.

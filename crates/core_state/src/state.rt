@@ -2,10 +2,11 @@
 
 use batcher::Batcher;
 use consumer_sup::Children;
+use core_tables::place_table::PlaceTable;
 use core_tables::rows::{BatchRow, ContentRow, PostRow, StageRow, Totals};
 use message_ack::Legs;
 use pipe_journal::Journal;
-use pipe_types::message::{Outcome, Place};
+use pipe_types::message::Outcome;
 use pipe_types::numbers::{StageNo, SubNo};
 use pipe_types::topology::Topology;
 use restart_core::Restarts;
@@ -42,7 +43,7 @@ pub struct Core {
     /// The children of a supervisor; by stage.
     pub children: Vec<Children>,
     /// By message number, from 1.
-    pub places: Vec<Place>,
+    pub places: PlaceTable,
     /// The step that settled a message, from 0, and 0 where none has; by message number, from 1.
     pub settled: Vec<u64>,
     /// The producer that took a message in; by message number, from 1.

@@ -4,12 +4,13 @@ ghost use Rattle.std.specs.Prelude.{◌≡◌, ℕ, suc, ◌≤◌, ◌∷◌, [
 ghost use Rattle.pipe_model.specs.Flow.{dispatched, taken};
 ghost use Rattle.core_tables.specs.{Chunks.{run_in}, Tables.{IsNumbered}};
 
+use crate::place_table::PlaceTable;
 use pipe_types::message::Place;
 use pipe_types::numbers::StageNo;
 use pipe_types::room::Sent;
 
 /// Moves each unit that waits in the stage to its inbox.
-pub fn place_all(places: &mut Vec<Place>, stage: StageNo, units: &[Sent])
+pub fn place_all(places: &mut PlaceTable, stage: StageNo, units: &[Sent])
     requires within { All (IsNumbered (length places.old.items)) units.now }
     ensures len { length places.new.items ≡ length places.old.items }
     ensures capacity { vec_capacity places.new ≡ vec_capacity places.old }
@@ -17,8 +18,8 @@ pub fn place_all(places: &mut Vec<Place>, stage: StageNo, units: &[Sent])
 {
     for sent in units {
         let at = (sent.unit - 1) as usize;
-        let place = moved(places[at], stage, *sent);
-        places[at] = place;
+        let place = moved(places.read(at), stage, *sent);
+        places.write(at, place);
     }
 }
 
@@ -33,7 +34,7 @@ fn moved(place: Place, stage: StageNo, sent: Sent) -> Place
 }
 
 /// Notes that each message of the chunk runs in the stage.
-pub fn run_all(places: &mut Vec<Place>, stage: StageNo, chunk: &[u32])
+pub fn run_all(places: &mut PlaceTable, stage: StageNo, chunk: &[u32])
     requires within { All (λ n. (1 ≤ n) × (n ≤ length places.old.items)) chunk.now }
     ensures len { length places.new.items ≡ length places.old.items }
     ensures capacity { vec_capacity places.new ≡ vec_capacity places.old }
@@ -41,8 +42,8 @@ pub fn run_all(places: &mut Vec<Place>, stage: StageNo, chunk: &[u32])
 {
     for no in chunk {
         let at = (*no - 1) as usize;
-        let place = running(places[at], stage);
-        places[at] = place;
+        let place = running(places.read(at), stage);
+        places.write(at, place);
     }
 }
 

@@ -8,6 +8,7 @@ ghost use Rattle.stage_subs.specs.Subs.{row_of, row_at, IsChanged};
 ghost use Rattle.core_tables.specs.{Answers.{done_as}, Tables.{queue_at, list_at, spare_at}};
 ghost use Rattle.core_takes.specs.Replies.{passed_parts, ends, marked, noted, HasRow, handled_on, counted_on};
 
+use core_tables::place_table::PlaceTable;
 use core_tables::rows::ContentRow;
 use pipe_types::message::{Outcome, Place, Reply};
 use pipe_types::numbers::{StageNo, SubNo};
@@ -44,7 +45,7 @@ fn after_reply(place: Place, stage: StageNo, passes_on: bool, reply: &Reply) -> 
 
 /// Passes on or acknowledges each message of the chunk, as its reply says.
 pub(crate) fn answer_all(
-    places: &mut Vec<Place>,
+    places: &mut PlaceTable,
     stage: StageNo,
     passes_on: bool,
     chunk: &[u32],
@@ -59,8 +60,8 @@ pub(crate) fn answer_all(
 {
     for k in 0..chunk.len() {
         let at = (chunk[k] - 1) as usize;
-        let place = after_reply(places[at], stage, passes_on, &replies[k]);
-        places[at] = place;
+        let place = after_reply(places.read(at), stage, passes_on, &replies[k]);
+        places.write(at, place);
     }
 }
 

@@ -32,19 +32,19 @@ steps_part stages steps =
 -- the text that the parts make is the report
 pub report_made :
     (topology : Topology) (before : History) (standing : List Place) (stages : List StageSpec) (steps : List Step)
-    (successful restarts refused : ℕ) (failed : Failures) (lost : List Loss) (faults : List (StageNo × SourceHow))
+    (accepted_count successful restarts refused : ℕ) (failed : Failures) (lost : List Loss) (faults : List (StageNo × SourceHow))
     (halted : Bool) (drains : List DrainCause) (cause start first second text : List ℕ)
     → standing ≡ places topology before → history steps ≡ before → stages ≡ topology.stages
-    → successful ≡ count_by is_successful standing
+    → accepted_count ≡ length standing → successful ≡ count_by is_successful standing
     → AreFailures (filter_map reason_of standing) failed → lost ≡ filter_map loss_of standing
     → restarts ≡ count_by is_restart steps → refused ≡ count_by is_refuse steps → faults ≡ filter_map fault_of steps
     → halted ≡ happened is_halt (history steps) → drains ≡ filter_map cause_of steps → cause ≡ end_word halted drains
-    → start ≡ [] → first ≡ start ++ counted_lines stages (length standing) successful failed.count (counted failed.reasons) lost
+    → start ≡ [] → first ≡ start ++ counted_lines stages accepted_count successful failed.count (counted failed.reasons) lost
     → second ≡ first ++ steps_lines stages restarts refused faults cause → text ≡ second
     → text ≡ report_text topology before
-report_made topology before standing stages steps successful restarts refused failed lost faults halted drains cause start first second text estanding esteps estages esuccessful efailed elost erestarts erefused efaults ehalted edrains ecause estart efirst esecond etext =
+report_made topology before standing stages steps accepted_count successful restarts refused failed lost faults halted drains cause start first second text estanding esteps estages eaccepted esuccessful efailed elost erestarts erefused efaults ehalted edrains ecause estart efirst esecond etext =
     let above : first ≡ places_report topology.stages (places topology before) =
-    efirst ∙ ((λ i. estart i ++ counted_lines (estages i) (length standing) (esuccessful i) (efailed.count i) (efailed.reasons i) (elost i)) ∙ ap (places_report topology.stages) estanding) in
+    efirst ∙ ((λ i. estart i ++ counted_lines (estages i) (eaccepted i) (esuccessful i) (efailed.count i) (efailed.reasons i) (elost i)) ∙ ap (places_report topology.stages) estanding) in
     let ends : cause ≡ end_word (happened is_halt (history steps)) (filter_map cause_of steps) = ecause ∙ (λ i. end_word (ehalted i) (edrains i)) in
     let below : steps_lines stages restarts refused faults cause ≡ steps_report topology.stages before =
     (λ i. steps_lines (estages i) (erestarts i) (erefused i) (efaults i) (ends i)) ∙ (steps_part topology.stages steps ∙ ap (steps_report topology.stages) esteps) in

@@ -3,7 +3,7 @@
 ghost use Rattle.std.specs.{Prelude.{◌≡◌, ◌+◌, ◌<◌, ◌^◌, ℕ, List, IfOk, OnOk, option_map}, List.{filter_map}};
 ghost use Rattle.journal_texts.specs.{Report.{reason_of as reason_of_place, with_reason}, Failures.{counted, count_in, AreFailures, AddsFailure}};
 
-use pipe_types::message::{Outcome, Place};
+use core_tables::place_table::PlaceTable;
 use std::alloc::{AllocError, Global};
 use std::collections::BTreeMap;
 
@@ -14,16 +14,6 @@ pub(crate) struct Failures<'a> {
     pub(crate) count: usize,
     /// Each reason, in byte order, with how many messages failed for it.
     pub(crate) reasons: BTreeMap<&'a [u8], u64>,
-}
-
-/// Why the message failed, where it failed.
-fn reason_of(place: &Place) -> Option<&[u8]>
-    ensures { option_map (λ reason. reason.now) result ≡ reason_of_place place.now }
-{
-    match place {
-        Place::Acked(Outcome::Failed(why)) => Some(why.as_bytes()),
-        _ => None,
-    }
 }
 
 /// How many messages failed for this reason.
@@ -57,15 +47,15 @@ fn add<'a>(failed: &mut Failures<'a>, reason: Option<&'a [u8]>) -> Result<(), Al
 }
 
 /// The messages that failed, in memory for each reason once.
-pub(crate) fn count_failures(alloc: Global, places: &[Place]) -> Result<Failures<'_>, AllocError>
-    ensures { IfOk result (AreFailures (filter_map reason_of_place places.now)) }
+pub(crate) fn count_failures(alloc: Global, places: &PlaceTable) -> Result<Failures<'_>, AllocError>
+    ensures { IfOk result (AreFailures (filter_map reason_of_place places.now.items)) }
 {
     let mut failed = Failures {
         count: 0,
         reasons: BTreeMap::new(alloc),
     };
-    for place in places {
-        add(&mut failed, reason_of(place))?;
+    for at in 0..places.len() {
+        add(&mut failed, places.reason(at))?;
     }
     Ok(failed)
 }

@@ -3,9 +3,11 @@
 ghost use Rattle.std.specs.{Prelude.{◌≡◌, ◌||◌}, List.{list_any}};
 ghost use Rattle.pipe_model.specs.Legal.{happened, is_halt as is_halt_step};
 ghost use Rattle.pipe_journal.specs.Views.{step_seen};
+ghost use Rattle.core_tables.specs.Ranged.{holds_at};
 ghost use Rattle.journal_texts.specs.Report.{places as places_of, is_fault as is_fault_how, is_source_fault as is_source_fault_step, is_lost as is_lost_place, is_failed as is_failed_place, gravest_of, status_of};
 
 use crate::steps::halts_by;
+use core_tables::place_table::PlaceTable;
 use pipe_journal::{AnswerView, Journal, StepView};
 use pipe_types::message::{Outcome, Place};
 use pipe_types::step::SourceHow;
@@ -64,16 +66,36 @@ fn is_failed(place: &Place) -> bool
     matches!(place, Place::Acked(Outcome::Failed(_)))
 }
 
-fn any_lost(places: &[Place]) -> bool
-    ensures { result ≡ list_any is_lost_place places.now }
+fn is_lost_at(places: &PlaceTable, at: usize) -> bool
+    ensures { result ≡ holds_at is_lost_place places.now.items at }
 {
-    places.iter().any(|place| is_lost(place))
+    match places.get(at) {
+        Some(place) => is_lost(&place),
+        None => false,
+    }
 }
 
-fn any_failed(places: &[Place]) -> bool
-    ensures { result ≡ list_any is_failed_place places.now }
+fn is_failed_at(places: &PlaceTable, at: usize) -> bool
+    ensures { result ≡ holds_at is_failed_place places.now.items at }
 {
-    places.iter().any(|place| is_failed(place))
+    match places.get(at) {
+        Some(place) => is_failed(&place),
+        None => false,
+    }
+}
+
+#[tactic(auto, using(core_tables::proofs::Ranged::any_at))]
+fn any_lost(places: &PlaceTable) -> bool
+    ensures { result ≡ list_any is_lost_place places.now.items }
+{
+    (0..places.len()).any(|at| is_lost_at(places, at))
+}
+
+#[tactic(auto, using(core_tables::proofs::Ranged::any_at))]
+fn any_failed(places: &PlaceTable) -> bool
+    ensures { result ≡ list_any is_failed_place places.now.items }
+{
+    (0..places.len()).any(|at| is_failed_at(places, at))
 }
 
 /// The status of the four findings, the gravest first.
@@ -95,8 +117,8 @@ fn gravest(source_fault: bool, halted: bool, lost: bool, failed: bool) -> u8
 /// The status of a run that ended: 4 where a source ended with a fault or with too long a line, else 3 where the run was
 /// halted, else 2 where a message was lost, else 1 where one failed, else 0. `places` are the places of the accepted
 /// messages, in order of their numbers.
-pub fn status(_topology: &Topology, journal: &Journal, places: &[Place]) -> u8
-    requires { places.now ≡ places_of _topology.now journal.now.steps }
+pub fn status(_topology: &Topology, journal: &Journal, places: &PlaceTable) -> u8
+    requires { places.now.items ≡ places_of _topology.now journal.now.steps }
     ensures { result ≡ status_of _topology.now journal.now.steps }
 {
     let (source_fault, halted) = bad_ends(journal);

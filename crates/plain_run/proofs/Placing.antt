@@ -1,8 +1,9 @@
 -- The table of places is that of the journal.
-use Rattle.std.proofs.Common.{◌≡◌, ℕ, zero, suc, ◌+◌, ◌≤◌, Bool, true, false, List, [], ◌∷◌, ◌++◌, length, take, refl, ap, sym, ◌∙◌, Option, Some, arith}
-use Rattle.std.specs.Prelude.{◌&&◌, not}
+use Rattle.std.proofs.Common.{◌≡◌, ℕ, zero, suc, ◌+◌, ◌≤◌, Bool, true, false, List, [], ◌∷◌, ◌++◌, length, take, drop, refl, ap, sym, ◌∙◌, Option, Some, arith}
+use Rattle.std.specs.Prelude.{◌&&◌, not, unwrap_or}
 use Rattle.std.specs.List.{filter_map, cons_option, list_all, slice_get}
 use Rattle.std.proofs.lemmas.List.{take_all}
+use Rattle.std.proofs.lemmas.Option.{slice_get_within}
 use Rattle.std.proofs.lemmas.List.Elements.{filter_map-append}
 use Rattle.std.proofs.lemmas.List.Folds.{list_all-append}
 use Rattle.pipe_types.specs.declared.message.Place.{Place}
@@ -38,6 +39,16 @@ places_stand core x =
     ∙ take_all (length xs) xs (omega arith)))
 
 -- ---- the drained test
+
+-- the test of those from a place on is that of the one there and of the others
+pub all_from : (test : Place → Bool) (xs : List Place) (k : ℕ) (x : Place) (b : Bool) → slice_get xs k ≡ Some x → test x ≡ b
+    → list_all test (drop k xs) ≡ (b && list_all test (drop (k + 1) xs))
+all_from test [] k x b there is = absurd (omega (arith, slice_get_within [] k x there))
+all_from test (y ∷ xs) zero x b there is = ap (λ (c : Bool). c && list_all test xs) (ap test (same_value y x there) ∙ is)
+  where
+    same_value : (p q : Place) → Some p ≡ Some q → p ≡ q
+    same_value p q e = ap (λ o. unwrap_or o p) e
+all_from test (y ∷ xs) (suc k) x b there is = all_from test xs k x b there is
 
 turned : (a b : Bool) → (a && b) ≡ (b && (a && true))
 turned true true = refl

@@ -1,10 +1,7 @@
 -- Which messages a step acknowledged, and among which they are found, from the tables of a run.
-use denote.Ref.{Bor}
 use Rattle.std.specs.Prelude.{ℕ, zero, suc, Bool, false, if◌then◌else◌, List, [], map, ◌&&◌, option_to_list, slice_get}
 use Rattle.std.specs.List.{flat_map}
 use Rattle.pipe_types.specs.declared.numbers.StageNo.{StageNo}
-use Rattle.pipe_types.specs.declared.numbers.MsgNo.{MsgNo}
-use Rattle.pipe_types.specs.declared.message.Outcome.{Outcome}
 use Rattle.pipe_types.specs.declared.message.Place.{Place}
 use Rattle.pipe_types.specs.declared.step.Step.{Step}
 use Rattle.pipe_types.specs.declared.step.Step.TheVariants.{Dispatch, Done, Wrote, ChildEnd}
@@ -22,10 +19,6 @@ use Rattle.plain_run.specs.Works.{held_in, numbers_at}
 abbrev pub acked_by : List Place → (marks : List ℕ) → (mark n : ℕ) → Bool
 acked_by places marks mark zero = false
 acked_by places marks mark (suc i) = is_number (slice_get marks i) mark && is_acked (slice_get places i)
-
--- the reference stands for what it points to
-abbrev pub row_seen : MsgNo × StageNo × Bor Outcome → MsgNo × StageNo × Outcome
-row_seen row = (row.0, row.1, row.2.now)
 
 -- the messages of the batches that wait in a stage that broadcasts
 abbrev pub waiting_in : Core → StageNo → List ℕ

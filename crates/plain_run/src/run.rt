@@ -6,7 +6,6 @@ ghost use Rattle.pipe_model.specs.{Acknowledgements.{numbers_upto}, History.{acc
 ghost use Rattle.pipe_model.specs.Moves.{is_drained as is_drained_as};
 ghost use Rattle.core_state.specs.Stands.{Stands};
 ghost use Rattle.settle_laws.specs.Settled.{row_of, settled_last};
-ghost use Rattle.plain_run.specs.Acked.{row_seen};
 ghost use Rattle.plain_run.specs.Jobs.{named_at as named_at_as};
 
 use crate::after::After;
@@ -16,8 +15,9 @@ use crate::settled::{judge_and_note, settled_row};
 use crate::standing::{accepted, is_drained, places};
 use crate::works::{Works, new_works};
 use core_state::Core;
+use core_tables::place_table::PlaceTable;
 use pipe_journal::Journal;
-use pipe_types::message::{Outcome, Place};
+use pipe_types::message::Outcome;
 use pipe_types::numbers::{MsgNo, Post, StageNo};
 use pipe_types::step::Step;
 use pipe_types::topology::Topology;
@@ -141,17 +141,17 @@ impl PlainRun {
     }
 
     /// The places of the accepted messages, in order of their numbers.
-    pub fn places(&self) -> &[Place]
-        ensures all { result.now ≡ filter_map (place self.now.topology self.now.steps) (numbers_upto (accepted_in self.now.steps)) }
-        ensures len { length result.now ≡ accepted_in self.now.steps }
+    pub fn places(&self) -> &PlaceTable
+        ensures all { result.now.items ≡ filter_map (place self.now.topology self.now.steps) (numbers_upto (accepted_in self.now.steps)) }
+        ensures len { length result.now.items ≡ accepted_in self.now.steps }
     {
         places(&self.core)
     }
 
     /// The message at that place, from 0, of those that the last step acknowledged, ascending, with its producer and its outcome;
     /// none just past their number.
-    pub fn settled(&self, at: u32) -> Option<(MsgNo, StageNo, &Outcome)>
-        ensures row { option_map row_seen result ≡ row_of self.now.topology self.now.steps (slice_get (settled_last self.now.topology self.now.steps) at) }
+    pub fn settled(&self, at: u32) -> Option<(MsgNo, StageNo, Outcome)>
+        ensures row { result ≡ row_of self.now.topology self.now.steps (slice_get (settled_last self.now.topology self.now.steps) at) }
         ensures past { is_some result ≡ nat_lt at (length (settled_last self.now.topology self.now.steps)) }
     {
         settled_row(&self.core, &self.settled, at as usize)

@@ -11,7 +11,7 @@ ghost use Rattle.core_laws.specs.Columns.{is_broadcast};
 ghost use Rattle.core_tables.specs.Tables.{list_at, queue_at};
 ghost use Rattle.core_state.specs.Stands.{Holds};
 ghost use Rattle.settle_laws.specs.Settled.{outcome_row, row_of, settled_last};
-ghost use Rattle.plain_run.specs.Acked.{acked_by, row_seen, touched_in, waiting_in};
+ghost use Rattle.plain_run.specs.Acked.{acked_by, touched_in, waiting_in};
 ghost use Rattle.plain_run.specs.Runs.{IsRun};
 ghost use Rattle.plain_run.specs.Works.{numbers_at as numbers_at_as};
 
@@ -21,6 +21,7 @@ use crate::jobs::{number_at, producer_at};
 use crate::judges::judge;
 use crate::works::{Works, started_in, taken_in};
 use core_state::Core;
+use core_tables::place_table::PlaceTable;
 use core_tables::rows::BatchRow;
 use pipe_types::message::{Outcome, Place};
 use pipe_types::numbers::{MsgNo, StageNo};
@@ -166,15 +167,15 @@ fn put_in_order(numbers: &mut Vec<u32>)
 }
 
 /// Keeps the messages that the step with the mark acknowledged.
-fn keep_acked(numbers: &mut Vec<u32>, places: &[Place], marks: &[u64], mark: u64)
-    ensures { numbers.new.items ≡ filter (acked_by places.now marks.now mark) numbers.old.items }
+fn keep_acked(numbers: &mut Vec<u32>, places: &PlaceTable, marks: &[u64], mark: u64)
+    ensures { numbers.new.items ≡ filter (acked_by places.now.items marks.now mark) numbers.old.items }
 {
     numbers.retain(|no| is_acked_by(places, marks, *no, mark));
 }
 
 /// Whether the step with the mark acknowledged the message.
-fn is_acked_by(places: &[Place], marks: &[u64], no: u32, mark: u64) -> bool
-    ensures { result ≡ acked_by places.now marks.now mark no }
+fn is_acked_by(places: &PlaceTable, marks: &[u64], no: u32, mark: u64) -> bool
+    ensures { result ≡ acked_by places.now.items marks.now mark no }
 {
     if no == 0 {
         return false;
@@ -192,21 +193,21 @@ fn is_marked(held: Option<&u64>, mark: u64) -> bool
     }
 }
 
-fn is_acked(place: Option<&Place>) -> bool
-    ensures { result ≡ is_acked_as (option_copied place.entry) }
+fn is_acked(place: Option<Place>) -> bool
+    ensures { result ≡ is_acked_as place }
 {
     matches!(place, Some(Place::Acked(_)))
 }
 
 /// The message at that place of the list, with its producer and its outcome.
-pub(crate) fn settled_row<'a>(
-    core: &'a Core,
+pub(crate) fn settled_row(
+    core: &Core,
     settled: &[u32],
     at: usize,
-) -> Option<(MsgNo, StageNo, &'a Outcome)>
+) -> Option<(MsgNo, StageNo, Outcome)>
     requires holds { Holds core.now }
     requires settled { settled.now ≡ settled_last core.now.topology core.now.journal.steps }
-    ensures row { option_map row_seen result ≡ row_of core.now.topology core.now.journal.steps (slice_get settled.now at) }
+    ensures row { result ≡ row_of core.now.topology core.now.journal.steps (slice_get settled.now at) }
     ensures past { is_some result ≡ nat_lt at (length settled.now) }
 {
     match number_at(settled, at) {
@@ -216,32 +217,21 @@ pub(crate) fn settled_row<'a>(
 }
 
 /// The message with its producer and its outcome, where it is acknowledged.
-fn row_at(core: &Core, no: u32) -> Option<(MsgNo, StageNo, &Outcome)>
+fn row_at(core: &Core, no: u32) -> Option<(MsgNo, StageNo, Outcome)>
     requires holds { Holds core.now }
     requires least { 1 ≤ no }
-    ensures { option_map row_seen result ≡ row_of core.now.topology core.now.journal.steps (Some no) }
+    ensures { result ≡ row_of core.now.topology core.now.journal.steps (Some no) }
 {
     let at = no as usize - 1;
-    outcome_of(
-        no,
-        producer_at(&core.producers, at),
-        place_at(&core.places, at),
-    )
+    outcome_of(no, producer_at(&core.producers, at), core.places.get(at))
 }
 
-/// The place of the message that was accepted after so many others.
-fn place_at(places: &[Place], others: usize) -> Option<&Place>
-    ensures { option_copied result ≡ slice_get places.now others }
-{
-    places.get(others)
-}
-
-fn outcome_of<'a>(
+fn outcome_of(
     no: u32,
     producer: Option<StageNo>,
-    place: Option<&'a Place>,
-) -> Option<(MsgNo, StageNo, &'a Outcome)>
-    ensures { option_map row_seen result ≡ outcome_row no producer (option_copied place.entry) }
+    place: Option<Place>,
+) -> Option<(MsgNo, StageNo, Outcome)>
+    ensures { result ≡ outcome_row no producer place }
 {
     match (producer, place) {
         (Some(producer), Some(Place::Acked(outcome))) => Some((MsgNo(no), producer, outcome)),

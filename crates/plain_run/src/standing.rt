@@ -8,6 +8,7 @@ ghost use Rattle.core_state.specs.Stands.{Holds};
 use crate::jobs::is_out;
 use core_rows::posts::MOST_SLOTS;
 use core_state::Core;
+use core_tables::place_table::PlaceTable;
 use pipe_types::message::Place;
 use pipe_types::numbers::{Post, StageNo};
 
@@ -20,12 +21,12 @@ pub(crate) fn accepted(core: &Core) -> u32
 }
 
 /// The places of the accepted messages, in order of their numbers.
-pub(crate) fn places(core: &Core) -> &[Place]
+pub(crate) fn places(core: &Core) -> &PlaceTable
     requires holds { Holds core.now }
-    ensures all { result.now ≡ filter_map (place core.now.topology core.now.journal.steps) (numbers_upto (accepted_in core.now.journal.steps)) }
-    ensures len { length result.now ≡ accepted_in core.now.journal.steps }
+    ensures all { result.now.items ≡ filter_map (place core.now.topology core.now.journal.steps) (numbers_upto (accepted_in core.now.journal.steps)) }
+    ensures len { length result.now.items ≡ accepted_in core.now.journal.steps }
 {
-    core.places.as_slice()
+    &core.places
 }
 
 /// Whether the drain has begun, no job is out, and every accepted message is acknowledged or lost.
@@ -39,16 +40,26 @@ pub(crate) fn is_drained(core: &Core) -> bool
     if is_any_out(core) {
         return false;
     }
-    are_final(core.places.as_slice())
+    are_final(&core.places)
 }
 
 /// Whether each message is acknowledged or lost.
-fn are_final(places: &[Place]) -> bool
-    ensures { result ≡ list_all (λ p. is_final (Some p)) places.now }
+fn are_final(places: &PlaceTable) -> bool
+    ensures { result ≡ list_all (λ p. is_final (Some p)) places.now.items }
 {
-    places
-        .iter()
-        .all(|place| matches!(place, Place::Acked(_) | Place::Lost(_)))
+    for at in 0..places.len() {
+        if !is_settled(places.read(at)) {
+            return false;
+        }
+    }
+    true
+}
+
+/// Whether the message is acknowledged or lost.
+fn is_settled(place: Place) -> bool
+    ensures { result ≡ is_final (Some place) }
+{
+    matches!(place, Place::Acked(_) | Place::Lost(_))
 }
 
 /// Whether a job of any stage is out.

@@ -7,19 +7,19 @@ ghost use Rattle.run_verdicts.specs.{Texts.{run_text}, Verdicts.{whole_text, whe
 
 use crate::verdict::{Shows, Texts};
 use core_state::Core;
+use core_tables::place_table::PlaceTable;
 use journal_reading::copy_topology;
 use journal_texts::report::report_text;
 use pipe_types::bytes::Bytes;
-use pipe_types::message::Place;
 use pipe_types::topology::Topology;
 use std::alloc::{AllocError, Global};
 
 /// The places of the accepted messages, in order of their numbers.
-pub fn places_of(core: &Core) -> &[Place]
+pub fn places_of(core: &Core) -> &PlaceTable
     requires stands { Stands core.now }
-    ensures { result.now ≡ places_in core.now.topology core.now.journal.steps }
+    ensures { result.now.items ≡ places_in core.now.topology core.now.journal.steps }
 {
-    core.places.as_slice()
+    &core.places
 }
 
 /// The texts of a run: those that are shown, and the report. The journal and the acknowledgements are made as they are written,

@@ -162,8 +162,8 @@ returns-clause-stands c =
     (omega (arith, wrote_due core s bytes (Outcomes os) stands.holds h.written.is.allowed, stands.holds.room.steps, c.push_spare.ensures.spare, c.note_batch.ensures.same_spare))
     c.end_batch.ensures.places_capacity c.end_batch.ensures.marks_capacity refl refl refl refl c.outcomes_in-outcomes.ensures.others in
     let holds = holds_after core core-new (Wrote s bytes (Outcomes os)) stands.holds refl written h.written.is.allowed fields room
-    (log_noted core core-new (Wrote s bytes (Outcomes os)) h.written.ms c.push_spare.new.self.acked c.deref.result.now c.deref-2.result.now c.len-mark.result h.written.ms
-    stands.holds h.written.is.allowed refl (written_acks core s bytes os u b h) fields c.deref.ensures.value c.deref-2.ensures.value c.len-mark.ensures refl
-    (ap (λ (a : AckLog). a.rows) c.push_spare.ensures.same_acked ∙ rows_by core s bytes os u b h (noted c.deref.result.now c.deref-2.result.now c.len-mark.result) c.note_batch.new.journal.acked.rows c.note_batch.ensures.noted)
+    (log_noted core core-new (Wrote s bytes (Outcomes os)) h.written.ms c.push_spare.new.self.acked c.end_batch.new.places.items c.deref.result.now c.len-mark.result h.written.ms
+    stands.holds h.written.is.allowed refl (written_acks core s bytes os u b h) fields refl c.deref.ensures.value c.len-mark.ensures refl
+    (ap (λ (a : AckLog). a.rows) c.push_spare.ensures.same_acked ∙ rows_by core s bytes os u b h (noted c.end_batch.new.places.items c.deref.result.now c.len-mark.result) c.note_batch.new.journal.acked.rows c.note_batch.ensures.noted)
     (ap (λ (a : AckLog). a.room) c.push_spare.ensures.same_acked ∙ c.note_batch.ensures.same_room)) in
     record { holds = holds; unowed = unowed_after core-new core.topology (Wrote s bytes (Outcomes os)) core.journal.steps refl written refl }

@@ -142,6 +142,6 @@ returns-clause-holds c =
     (ended_queues core s c.number_in-no.result c.end_in-again.result c.leave_chunk.new.chunks.items x (child_end_facts core.topology core.journal.steps s c.args.slot c.args.reply c.requires.legal).role c.leave_chunk.ensures.left) refl in
     let written = c.push_spare.ensures.written ∙ ap (λ (h : History). ChildEnd s c.args.slot c.args.reply ∷ h) c.note_one.ensures.same_steps in
     holds_after core core-new (ChildEnd s c.args.slot c.args.reply) x refl written c.requires.legal fields room
-    (log_noted core core-new (ChildEnd s c.args.slot c.args.reply) (c.number_in-no.result ∷ []) c.push_spare.new.self.acked c.deref-2.result.now c.deref-3.result.now c.len-entry.result (c.number_in-no.result ∷ [])
-    x c.requires.legal refl (end_acks core.topology core.journal.steps s c.args.slot c.args.reply c.number_in-no.result c.end_in-again.result k) fields c.deref-2.ensures.value c.deref-3.ensures.value c.len-entry.ensures refl
+    (log_noted core core-new (ChildEnd s c.args.slot c.args.reply) (c.number_in-no.result ∷ []) c.push_spare.new.self.acked c.put_place.new.places.items c.deref-2.result.now c.len-entry.result (c.number_in-no.result ∷ [])
+    x c.requires.legal refl (end_acks core.topology core.journal.steps s c.args.slot c.args.reply c.number_in-no.result c.end_in-again.result k) fields refl c.deref-2.ensures.value c.len-entry.ensures refl
     (ap (λ (a : AckLog). a.rows) c.push_spare.ensures.same_acked ∙ c.note_one.ensures.noted) (ap (λ (a : AckLog). a.room) c.push_spare.ensures.same_acked ∙ c.note_one.ensures.same_room))

@@ -7,6 +7,6 @@ use Rattle.core_sends.proofs.leaving.keep_waiting.Given as goal
 abbrev pub invariant-loop-k : goal.invariant-loop-k
 invariant-loop-k l =
     record {
-      passed : Passed (still_waits l.places l.stage) l.fn.queue.items l.queue.items l.k l.kept;
+      passed : Passed (still_waits l.places.items l.stage) l.fn.queue.items l.queue.items l.k l.kept;
       room : spare_in (Some l.fn.queue) ≤ spare_in (Some l.queue);
     }

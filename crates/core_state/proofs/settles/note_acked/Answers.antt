@@ -7,7 +7,7 @@ pub loop-no-preserved : goal.loop-no-preserved
 loop-no-preserved c =
     let l = c.loop-no in
     let p = c.note_one in
-    let f = noted c.args.places.now c.args.producers.now c.args.at in
+    let f = noted c.args.places.now.items c.args.producers.now c.args.at in
     let left : ℕ = length c.args.numbers.now - (l.no-index + 1) in
     let fits : length l.journal.acked.rows + suc left ≤ l.journal.acked.room = omega (arith, l.invariant.room) in
     let more = noted_room f l.journal.acked.rows p.new.journal.acked.rows (get_or c.args.numbers.now l.no-index 0) left l.journal.acked.room p.ensures.noted fits in

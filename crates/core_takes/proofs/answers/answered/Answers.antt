@@ -52,13 +52,13 @@ pub note_acked-requires-clause-least : goal.note_acked-requires-clause-least
 note_acked-requires-clause-least c =
     let core = c.args.core.now in
     let read = chunk_read core c.args.stage c.args.replies c.index-chunk.result.now c.requires.holds c.requires.legal c.requires.calm c.index-chunk.ensures in
-    λ i d below. (chunk_numbered core c.args.stage c.args.replies c.deref-5.result.now (length core.places.items) c.requires.holds c.requires.legal c.requires.calm (c.deref-5.ensures.value ∙ read) c.requires.holds.fields.sized.places i d below).0
+    λ i d below. (chunk_numbered core c.args.stage c.args.replies c.deref-4.result.now (length core.places.items) c.requires.holds c.requires.legal c.requires.calm (c.deref-4.ensures.value ∙ read) c.requires.holds.fields.sized.places i d below).0
 
 pub note_acked-requires-clause-room : goal.note_acked-requires-clause-room
 note_acked-requires-clause-room c =
     let core = c.args.core.now in
     let read = chunk_read core c.args.stage c.args.replies c.index-chunk.result.now c.requires.holds c.requires.legal c.requires.calm c.index-chunk.ensures in
-    let many = ap length (c.deref-5.ensures.value ∙ read) in
+    let many = ap length (c.deref-4.ensures.value ∙ read) in
     let fits = log_fits core (Done c.args.stage c.args.replies) (running core.topology core.journal.steps c.args.stage) c.requires.holds (chunk_acks core c.args.stage c.args.replies c.requires.holds c.requires.legal c.requires.calm) in
     omega (arith, many, fits)
 
@@ -91,7 +91,7 @@ count_taken-requires c =
     let core = c.args.core.now in
     let s = c.args.stage in
     let known = known_answer core s c.args.replies c.requires.holds c.requires.legal c.requires.calm in
-    let took : last_take core.journal.steps s ≡ c.last_take-take.result = sym (c.last_take-take.ensures ∙ (ap (λ rows. take_in (slice_get rows s.0)) c.deref-6.ensures.value ∙ ap take_in (c.requires.holds.fields.stages s known.within))) in
+    let took : last_take core.journal.steps s ≡ c.last_take-take.result = sym (c.last_take-take.ensures ∙ (ap (λ rows. take_in (slice_get rows s.0)) c.deref-5.ensures.value ∙ ap take_in (c.requires.holds.fields.stages s known.within))) in
     counts_fit core s c.args.replies c.last_take-take.result c.requires.holds known c.requires.calm took
 
 pub clear_chunk-requires : goal.clear_chunk-requires
@@ -114,7 +114,7 @@ returns-clause-holds c =
     let b = c.has_batchers-passes_on.result in
     let p = c.is_parted-by_partition.result in
     let read : c.index-chunk.result.now.items ≡ list_at core.chunks.items s = list_read core.chunks.items s c.index-chunk.result.now (omega (arith, known.within, x.fields.sized.chunks)) c.index-chunk.ensures in
-    let took : c.last_take-take.result ≡ last_take core.journal.steps s = c.last_take-take.ensures ∙ (ap (λ rows. take_in (slice_get rows s.0)) c.deref-6.ensures.value ∙ ap take_in (x.fields.stages s known.within)) in
+    let took : c.last_take-take.result ≡ last_take core.journal.steps s = c.last_take-take.ensures ∙ (ap (λ rows. take_in (slice_get rows s.0)) c.deref-5.ensures.value ∙ ap take_in (x.fields.stages s known.within)) in
     let core-new : Core = record core { journal = c.push_spare.new.self; posts = c.come_home.new.posts; subs = c.count_taken.new.subs; waiting = c.queue_passed.new.waiting; chunks = c.clear_chunk.new.chunks; places = c.answer_all.new.places; settled = c.mark_all.new.settled; contents = c.note_all.new.contents; totals = record core.totals { quiet = 0 } } in
     let new : Answered core s c.args.replies b p c.come_home.new.posts c.count_taken.new.subs c.queue_passed.new.waiting c.clear_chunk.new.chunks c.answer_all.new.places c.mark_all.new.settled c.note_all.new.contents =
     record {
@@ -144,6 +144,6 @@ returns-clause-holds c =
     let written = c.push_spare.ensures.written ∙ ap (λ (h : History). Done s c.args.replies ∷ h) c.note_acked.ensures.same_steps in
     let chunk = chunk_read core s c.args.replies c.index-chunk.result.now x c.requires.legal c.requires.calm c.index-chunk.ensures in
     holds_after core core-new (Done s c.args.replies) x refl written c.requires.legal fields room
-    (log_noted core core-new (Done s c.args.replies) (running core.topology core.journal.steps s) c.push_spare.new.self.acked c.deref-3.result.now c.deref-4.result.now c.len-entry.result c.deref-5.result.now
-    x c.requires.legal refl (chunk_acks core s c.args.replies x c.requires.legal c.requires.calm) fields c.deref-3.ensures.value c.deref-4.ensures.value c.len-entry.ensures (c.deref-5.ensures.value ∙ chunk)
+    (log_noted core core-new (Done s c.args.replies) (running core.topology core.journal.steps s) c.push_spare.new.self.acked c.answer_all.new.places.items c.deref-3.result.now c.len-entry.result c.deref-4.result.now
+    x c.requires.legal refl (chunk_acks core s c.args.replies x c.requires.legal c.requires.calm) fields refl c.deref-3.ensures.value c.len-entry.ensures (c.deref-4.ensures.value ∙ chunk)
     (ap (λ (a : AckLog). a.rows) c.push_spare.ensures.same_acked ∙ c.note_acked.ensures.noted) (ap (λ (a : AckLog). a.room) c.push_spare.ensures.same_acked ∙ c.note_acked.ensures.same_room))

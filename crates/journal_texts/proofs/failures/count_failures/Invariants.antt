@@ -5,5 +5,5 @@ use Rattle.journal_texts.specs.Failures.{AreFailures}
 use Rattle.journal_texts.proofs.failures.count_failures.Given as goal
 
 -- the messages so far
-abbrev pub invariant-loop-place : goal.invariant-loop-place
-invariant-loop-place l = AreFailures (filter_map reason_of (take l.place-index l.places)) l.failed
+abbrev pub invariant-loop-at : goal.invariant-loop-at
+invariant-loop-at l = AreFailures (filter_map reason_of (take l.at l.places.items)) l.failed

@@ -17,5 +17,5 @@ returns-clause-members c n =
     let ordered = c.put_in_order.new.numbers.items in
     let test : ℕ → Bool = acked_by core.places.items core.settled.items c.args.mark in
     let both = c.put_in_order.ensures.members n in
-    ap (λ ns. among ns n) (c.keep_acked.ensures ∙ (λ i. filter (acked_by (c.deref.ensures.value i) (c.deref-2.ensures.value i) c.args.mark) ordered))
+    ap (λ ns. among ns n) (c.keep_acked.ensures ∙ (λ i. filter (acked_by core.places.items (c.deref.ensures.value i) c.args.mark) ordered))
     ∙ (among_filter test ordered n ∙ ap (λ b. test n && b) (same_among c.args.numbers.items ordered n both.0 both.1))

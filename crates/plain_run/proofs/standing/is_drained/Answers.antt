@@ -1,7 +1,4 @@
-use Rattle.std.proofs.Common.{◌∙◌, ap, sym}
-use Rattle.std.specs.Prelude.{Some}
-use Rattle.std.specs.List.{list_all}
-use Rattle.pipe_model.specs.Moves.{is_final}
+use Rattle.std.proofs.Common.{◌∙◌, sym}
 use Rattle.core_rows.proofs.Totals.{draining_is}
 use Rattle.plain_run.proofs.Placing.{drained_by}
 use Rattle.plain_run.proofs.standing.is_drained.Goals as goal
@@ -10,5 +7,4 @@ pub returns : goal.returns
 returns c =
     let core = c.args.core.now in
     c.are_final.ensures
-    ∙ (ap (list_all (λ p. is_final (Some p))) c.as_slice.ensures.value
-    ∙ drained_by core c.requires.holds (sym (draining_is core c.requires.holds) ∙ c.if-not-core.false) (sym c.is_any_out.ensures ∙ c.if-is_any_out.false))
+    ∙ drained_by core c.requires.holds (sym (draining_is core c.requires.holds) ∙ c.if-not-core.false) (sym c.is_any_out.ensures ∙ c.if-is_any_out.false)

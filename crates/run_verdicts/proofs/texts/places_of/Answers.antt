@@ -1,6 +1,5 @@
-use Rattle.std.proofs.Common.{◌∙◌}
 use Rattle.journal_audit.proofs.Placing.{places_stand}
 use Rattle.run_verdicts.proofs.texts.places_of.Goals as goal
 
 pub returns : goal.returns
-returns c = c.as_slice.ensures.value ∙ places_stand c.args.core.now c.requires.stands.holds
+returns c = places_stand c.args.core.now c.requires.stands.holds
