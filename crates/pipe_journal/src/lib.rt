@@ -1,16 +1,13 @@
 //! The journal of a run: the list of its steps, which only grows.
 //!
-//! Contracts see a `Journal` as its `steps`, newest first, as the definitions of `pipe_model` do, and as its `spare`,
-//! the number of further steps that take no memory. So a push adds one step in front of the history, and where it
-//! fails the step comes back and the history is as it was.
+//! Contracts see a `Journal` as its `steps`, newest first, and as its `spare`, the number of further steps that take no memory. A push
+//! adds one step in front of the history, and where it fails the step comes back and the history is as it was.
 //!
-//! An entry has a step's kind and numbers, in 16 bytes. Records stand packed beside the entries, each its bytes and four more, and
-//! replies in 16 bytes each: one that passes its message's record on unchanged has no bytes of its own, so that each byte of a
-//! run stands once. A late answer, outcomes that are not all successes, and whatever there is no memory to pack are kept as they
-//! came. A reader lends all of it, as a `StepView` or as one record or reply by the place of its step and its place there, and
-//! takes no memory. Only `get` copies.
+//! An entry has a step's kind and numbers, in 16 bytes. Records and replies stand packed beside the entries, and a reply that passes its
+//! message's record on unchanged has no bytes of its own. A late answer, outcomes that are not all successes, and whatever there is no
+//! memory to pack are kept as they came. A reader lends all of it, by the place of a step and a place there; only `get` copies.
 //!
-//! Beside its steps a journal keeps a log: a row for each message that a step acknowledged. Whoever writes the steps notes the rows, and
+//! Beside its steps a journal keeps a log: a row for each message that a step acknowledged, which whoever writes the steps notes, and
 //! `IsLog` says of a topology which rows these must be. So what is new in the journal is acknowledged at the cost of that alone.
 #![tactic(auto)]
 
