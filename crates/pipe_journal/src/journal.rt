@@ -150,6 +150,7 @@ impl Journal {
     }
 
     /// The step at that place from 0, the oldest first, with its lists lent.
+    #[inline(always)]
     pub fn view(&self, at: u64) -> StepView<'_>
         requires { at < length self.now.steps }
         ensures { step_at self.now.steps at ≡ Some (step_seen result) }
