@@ -3,3 +3,4 @@ pub mod Streaming
 pub mod Tallies
 pub mod Reports
 pub mod FoundSteps
+pub mod Placewise

@@ -1,7 +1,6 @@
 //! What the places of the messages come to.
 
-ghost use Rattle.std.specs.{Prelude.{◌≡◌, ◌≤◌, IfOk, count_by, map, length, vec_len}, List.{filter_map}};
-ghost use Rattle.core_tables.specs.Ranged.{holds_at, found_at};
+ghost use Rattle.std.specs.{Prelude.{◌≡◌, ◌≤◌, ◌++◌, IfOk, OnOk, cond, count_by, map, length, option_to_list, vec_len}, List.{filter_map}};
 ghost use Rattle.journal_texts.specs.Report.{loss_of as loss_of_place, is_successful as is_success, is_overflow, is_killed};
 
 use core_tables::place_table::PlaceTable;
@@ -24,44 +23,43 @@ fn loss_of(place: &Place) -> Option<Loss>
     }
 }
 
-/// Whether the message there succeeded.
-fn is_successful_at(places: &PlaceTable, at: usize) -> bool
-    ensures { result ≡ holds_at is_success places.now.items at }
+/// 1 where it is so, and else 0.
+pub(crate) fn one_if(is: bool) -> usize
+    ensures { result ≡ cond is 1 0 }
 {
-    match places.get(at) {
-        Some(place) => is_successful(&place),
-        None => false,
-    }
-}
-
-/// How the message there was lost, if it was.
-fn loss_at(places: &PlaceTable, at: usize) -> Option<Loss>
-    ensures { result ≡ found_at loss_of_place places.now.items at }
-{
-    match places.get(at) {
-        Some(place) => loss_of(&place),
-        None => None,
-    }
+    if is { 1 } else { 0 }
 }
 
 /// How many messages succeeded.
-#[tactic(auto, using(core_tables::proofs::Ranged::count_at))]
 pub(crate) fn successes(places: &PlaceTable) -> usize
     ensures { result ≡ count_by is_success places.now.items }
 {
-    (0..places.len())
-        .filter(|at| is_successful_at(places, *at))
-        .count()
+    let mut count = 0;
+    for at in 0..places.len() {
+        count += one_if(is_successful(&places.read(at)));
+    }
+    count
+}
+
+/// Puts the loss behind the others, if there is one.
+fn add_loss(found: &mut Vec<Loss>, loss: Option<Loss>) -> Result<(), AllocError>
+    ensures { OnOk result (found.new.items ≡ found.old.items ++ option_to_list loss) }
+{
+    if let Some(loss) = loss {
+        found.push(loss)?;
+    }
+    Ok(())
 }
 
 /// How the lost messages were lost, in order of their numbers.
-#[tactic(auto, using(core_tables::proofs::Ranged::all_found))]
 pub(crate) fn losses(alloc: Global, places: &PlaceTable) -> Result<Vec<Loss>, AllocError>
     ensures { IfOk result (λ found. found.items ≡ filter_map loss_of_place places.now.items) }
 {
-    (0..places.len())
-        .filter_map(|at| loss_at(places, at))
-        .collect(alloc)
+    let mut found = Vec::new(alloc);
+    for at in 0..places.len() {
+        add_loss(&mut found, loss_of(&places.read(at)))?;
+    }
+    Ok(found)
 }
 
 /// How many of them went over the size of the stage's buffer.

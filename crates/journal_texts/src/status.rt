@@ -3,7 +3,6 @@
 ghost use Rattle.std.specs.{Prelude.{◌≡◌, ◌||◌}, List.{list_any}};
 ghost use Rattle.pipe_model.specs.Legal.{happened, is_halt as is_halt_step};
 ghost use Rattle.pipe_journal.specs.Views.{step_seen};
-ghost use Rattle.core_tables.specs.Ranged.{holds_at};
 ghost use Rattle.journal_texts.specs.Report.{places as places_of, is_fault as is_fault_how, is_source_fault as is_source_fault_step, is_lost as is_lost_place, is_failed as is_failed_place, gravest_of, status_of};
 
 use crate::steps::halts_by;
@@ -66,36 +65,26 @@ fn is_failed(place: &Place) -> bool
     matches!(place, Place::Acked(Outcome::Failed(_)))
 }
 
-fn is_lost_at(places: &PlaceTable, at: usize) -> bool
-    ensures { result ≡ holds_at is_lost_place places.now.items at }
-{
-    match places.get(at) {
-        Some(place) => is_lost(&place),
-        None => false,
-    }
-}
-
-fn is_failed_at(places: &PlaceTable, at: usize) -> bool
-    ensures { result ≡ holds_at is_failed_place places.now.items at }
-{
-    match places.get(at) {
-        Some(place) => is_failed(&place),
-        None => false,
-    }
-}
-
-#[tactic(auto, using(core_tables::proofs::Ranged::any_at))]
 fn any_lost(places: &PlaceTable) -> bool
     ensures { result ≡ list_any is_lost_place places.now.items }
 {
-    (0..places.len()).any(|at| is_lost_at(places, at))
+    for at in 0..places.len() {
+        if is_lost(&places.read(at)) {
+            return true;
+        }
+    }
+    false
 }
 
-#[tactic(auto, using(core_tables::proofs::Ranged::any_at))]
 fn any_failed(places: &PlaceTable) -> bool
     ensures { result ≡ list_any is_failed_place places.now.items }
 {
-    (0..places.len()).any(|at| is_failed_at(places, at))
+    for at in 0..places.len() {
+        if is_failed(&places.read(at)) {
+            return true;
+        }
+    }
+    false
 }
 
 /// The status of the four findings, the gravest first.

@@ -48,7 +48,10 @@ all_from test (y ∷ xs) zero x b there is = ap (λ (c : Bool). c && list_all te
   where
     same_value : (p q : Place) → Some p ≡ Some q → p ≡ q
     same_value p q e = ap (λ o. unwrap_or o p) e
-all_from test (y ∷ xs) (suc k) x b there is = all_from test xs k x b there is
+all_from test (y ∷ xs) (suc k) x b there is = all_from test xs k x b there is ∙ ap (λ n. b && list_all test (drop n (y ∷ xs))) (one_on k)
+  where
+    one_on : (n : ℕ) → suc (n + 1) ≡ suc n + 1
+    one_on n = omega arith
 
 turned : (a b : Bool) → (a && b) ≡ (b && (a && true))
 turned true true = refl

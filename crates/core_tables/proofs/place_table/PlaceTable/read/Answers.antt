@@ -14,7 +14,7 @@ row_there : (c : After-index) → slice_get c.self.inside.rows.items c.args.at �
 row_there c =
     let rows = c.self.inside.rows.items in
     let many = ap (λ (v : Vec Place Global). length v.items) c.self.view_is in
-    let within : c.args.at < length rows = omega (arith, c.requires, many, length-map rows (seen c.self.inside.failures.items)) in
+    let within : c.args.at < length rows = omega (arith, c.requires, many, length-map rows (seen c.self.inside.others.items)) in
     slice_get_read rows (length rows) c.args.at c.index.result.now refl within c.index.ensures
 
 pub place_of-requires : goal.place_of-requires
@@ -23,7 +23,7 @@ place_of-requires c =
 
 pub returns : goal.returns
 returns c =
-    let fs = c.self.inside.failures.items in
+    let fs = c.self.inside.others.items in
     sym (ap (λ (v : Vec Place Global). slice_get v.items c.args.at) c.self.view_is)
     ∙ (slice_get-map (seen fs) c.self.inside.rows.items c.args.at
     ∙ (ap (option_map (seen fs)) (row_there (goal.at.returns c).After-index)
