@@ -1,7 +1,6 @@
 //! What the steps of a run come to.
 
-ghost use Rattle.std.specs.Prelude.{◌≡◌, ◌<◌, ◌^◌, length, count_by};
-ghost use Rattle.core_tables.specs.Ranged.{holds_at};
+ghost use Rattle.std.specs.Prelude.{◌≡◌, ◌<◌, ◌^◌, length, cond, count_by};
 ghost use Rattle.journal_texts.specs.Report.{is_successful, is_failed, is_lost};
 ghost use Rattle.journal_audit.specs.Verdicts.{summary_of};
 
@@ -10,58 +9,65 @@ use core_tables::place_table::PlaceTable;
 use journal_reading::PlainRun;
 use pipe_types::message::{Outcome, Place};
 
+/// 1 where it is so, and else 0.
+fn one_if(is: bool) -> u32
+    ensures { result ≡ cond is 1 0 }
+{
+    if is { 1 } else { 0 }
+}
+
 /// How many messages succeeded.
-#[tactic(auto, using(core_tables::proofs::Ranged::count_at, crate::proofs::Counting::count_within))]
 fn successes(places: &PlaceTable) -> u32
     requires few { length places.now.items < 2 ^ 32 }
     ensures { result ≡ count_by is_successful places.now.items }
 {
-    (0..places.len())
-        .filter(|at| is_success_at(places, *at))
-        .count() as u32
+    let mut count = 0;
+    for at in 0..places.len() {
+        count += one_if(is_success(&places.read(at)));
+    }
+    count
 }
 
-/// Whether the message there succeeded.
-fn is_success_at(places: &PlaceTable, at: usize) -> bool
-    ensures { result ≡ holds_at is_successful places.now.items at }
+fn is_success(place: &Place) -> bool
+    ensures { result ≡ is_successful place.now }
 {
-    matches!(places.get(at), Some(Place::Acked(Outcome::Successful)))
+    matches!(place, Place::Acked(Outcome::Successful))
 }
 
 /// How many messages failed.
-#[tactic(auto, using(core_tables::proofs::Ranged::count_at, crate::proofs::Counting::count_within))]
 fn failures(places: &PlaceTable) -> u32
     requires few { length places.now.items < 2 ^ 32 }
     ensures { result ≡ count_by is_failed places.now.items }
 {
-    (0..places.len())
-        .filter(|at| is_failure_at(places, *at))
-        .count() as u32
+    let mut count = 0;
+    for at in 0..places.len() {
+        count += one_if(is_failure(&places.read(at)));
+    }
+    count
 }
 
-/// Whether the message there failed.
-fn is_failure_at(places: &PlaceTable, at: usize) -> bool
-    ensures { result ≡ holds_at is_failed places.now.items at }
+fn is_failure(place: &Place) -> bool
+    ensures { result ≡ is_failed place.now }
 {
-    matches!(places.get(at), Some(Place::Acked(Outcome::Failed(_))))
+    matches!(place, Place::Acked(Outcome::Failed(_)))
 }
 
 /// How many messages were lost.
-#[tactic(auto, using(core_tables::proofs::Ranged::count_at, crate::proofs::Counting::count_within))]
 fn losses(places: &PlaceTable) -> u32
     requires few { length places.now.items < 2 ^ 32 }
     ensures { result ≡ count_by is_lost places.now.items }
 {
-    (0..places.len())
-        .filter(|at| is_loss_at(places, *at))
-        .count() as u32
+    let mut count = 0;
+    for at in 0..places.len() {
+        count += one_if(is_loss(&places.read(at)));
+    }
+    count
 }
 
-/// Whether the message there was lost.
-fn is_loss_at(places: &PlaceTable, at: usize) -> bool
-    ensures { result ≡ holds_at is_lost places.now.items at }
+fn is_loss(place: &Place) -> bool
+    ensures { result ≡ is_lost place.now }
 {
-    matches!(places.get(at), Some(Place::Lost(_)))
+    matches!(place, Place::Lost(_))
 }
 
 /// What the steps of the run come to.

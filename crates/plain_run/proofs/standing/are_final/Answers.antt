@@ -6,7 +6,7 @@ use Rattle.pipe_model.specs.Moves.{is_final}
 use Rattle.plain_run.proofs.Placing.{all_from}
 use Rattle.plain_run.proofs.standing.are_final.Goals as goal
 
-final : Place → Bool
+abbrev final : Place → Bool
 final p = is_final (Some p)
 
 pub returns-then-not-is_settled : goal.returns-then-not-is_settled
