@@ -8,10 +8,10 @@ ghost use Rattle.core_deaths.specs.Reasons.{reason_at};
 ghost use Rattle.core_losses.specs.{Losses.{incarnation_at, loss_in}, Legs.{LegsSeen}};
 ghost use Rattle.core_losses.specs.Batches.{drop_at, drop_in, drop_due, drop_of, BatchSeen, BatchesSeen, batch_lost, fate_legs, ended_in, marked_in, after_kill, left_batch};
 
-use core_tables::place_table::PlaceTable;
 use crate::ends::end_all;
 use crate::legs::lose_legs;
 use crate::messages::loss_of;
+use core_tables::place_table::PlaceTable;
 use core_tables::rows::{BatchRow, PostRow, StageRow};
 use message_ack::{Legs, Settled};
 use pipe_types::message::{Loss, Why};

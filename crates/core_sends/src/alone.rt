@@ -4,9 +4,9 @@ ghost use Rattle.std.specs.{Prelude.{◌≡◌, ℕ, suc, ◌+◌, ◌++◌, ◌
 ghost use Rattle.core_tables.specs.Tables.{spare_in};
 ghost use Rattle.core_sends.specs.{Losing.{marked}, Batches.{not_sent, numbers_of, succeeded, all_succeeded, all_marked, lone_of, alone_in, served_alone, success, IsEndable}};
 
-use core_tables::place_table::PlaceTable;
 use crate::leaving::keep_unsent;
 use core_state::settles::{mark_all, note_row};
+use core_tables::place_table::PlaceTable;
 use core_tables::rows::BatchRow;
 use message_ack::Legs;
 use pipe_journal::Journal;

@@ -7,7 +7,6 @@ ghost use Rattle.core_tables.specs.Tables.{named, spare_in, HasRoom};
 ghost use Rattle.core_state.specs.Stands.{Holds, Stands};
 ghost use Rattle.core_sends.specs.{Losing.{still_waits, left_in, numbers_in, over_of, kept_of, lost_over_size, marked}, Rooms.{planned, served_first}};
 
-use core_tables::place_table::PlaceTable;
 use crate::alone::{leave_batches, note_alone};
 use crate::batches::begin_all;
 use crate::counting::count_all;
@@ -16,6 +15,7 @@ use crate::losing::{end_over, first_over, lose_all, mark_all, take_out};
 use crate::plans::{make_room, plan, plan_batches};
 use core_state::{Core, MOST_DUE};
 use core_tables::inboxes::deliver_all;
+use core_tables::place_table::PlaceTable;
 use core_tables::places::place_all;
 use pipe_types::numbers::StageNo;
 use pipe_types::room::Sent;
