@@ -70,9 +70,9 @@ pub(crate) fn lose_messages(
     ensures marks_capacity { vec_capacity marks.new ≡ vec_capacity marks.old }
 {
     for at in 0..places.len() {
-        let place = places.read(at);
-        let loss = loss_of_place(rows, killed, place);
-        places.write(at, lost(place, loss));
+        let loss = loss_of_place(rows, killed, places.read(at));
+        let place = lost(places.read(at), loss);
+        places.write(at, place);
         marks[at] = marked(marks[at], loss, mark);
     }
 }
