@@ -9,14 +9,13 @@ use Rattle.pipe_model.specs.History.{History}
 use Rattle.pipe_edges.specs.declared.edges.EdgeKind.{EdgeKind}
 use Rattle.pipe_edges.specs.declared.edges.EdgeKind.TheVariants.{Source as SourceKind}
 use Rattle.pipe_edges.specs.declared.edges.EdgeEnd.TheVariants as edge
-use Rattle.pipe_edges.specs.declared.source.ReadEnd.{ReadEnd}
 use Rattle.pipe_edges.specs.declared.source.ReadEnd.TheVariants.{Got, End, Failed, Empty}
 use Rattle.stage_bodies.specs.Seen.{SourceSeen}
 use Rattle.edge_names.specs.Seen.{EdgesSeen}
 use Rattle.edge_names.specs.Named.{GivesSource, Opens, BacksSource}
 use Rattle.run_verdicts.specs.Judged.{Summary, Judgement, Legal, Bad, verdict_in, IsSaid, AuditSeen, Audits}
 use Rattle.run_verdicts.specs.declared.audits.AuditFault.{AuditFault}
-use Rattle.run_verdicts.specs.declared.audits.AuditFault.TheVariants.{Line, Large, Wait, Source}
+use Rattle.run_verdicts.specs.declared.audits.AuditFault.TheVariants.{Large, Wait, Source}
 use Rattle.run_verdicts.specs.declared.verdict.Refusal.{Refusal}
 use Rattle.run_verdicts.specs.declared.verdict.Refusal.TheVariants.{Usage, Topology as NoTopology, Stock, Edge, Audit, Memory}
 use Rattle.run_verdicts.specs.declared.verdict.Verdict.{Verdict}

@@ -1,6 +1,5 @@
-use Rattle.std.proofs.Common.{◌≡◌, ◌+◌, ◌≤◌, ℕ, List, ◌++◌, take, length, sym, subst, arith, rules}
-use Rattle.pipe_edges.specs.declared.source.ReadEnd.{ReadEnd}
-use Rattle.pipe_edges.specs.declared.source.ReadEnd.TheVariants.{Got, End, Failed, Empty}
+use Rattle.std.proofs.Common.{◌≡◌, ◌+◌, ℕ, List, ◌++◌, take, length, sym, subst, arith, rules}
+use Rattle.pipe_edges.specs.declared.source.ReadEnd.TheVariants.{Got, End}
 use Rattle.pipe_edges.specs.Reads.{ReadIsCounted}
 use Rattle.run_verdicts.specs.declared.audits.AuditFault.{AuditFault}
 use Rattle.run_verdicts.specs.Judged.{Summary, Audits}
@@ -9,7 +8,7 @@ use Rattle.std.specs.Prelude.{Result}
 use Rattle.stage_bodies.specs.Seen.{source_seen}
 use Rattle.pipe_top.specs.Audits.{ReadOnce}
 use Rattle.pipe_top.specs.Flows.{ReadsSource}
-use Rattle.pipe_top.proofs.Audits.{none_read, more_read, large_read, wait_read, fault_read, end_read}
+use Rattle.pipe_top.proofs.Audits.{more_read, large_read, end_read}
 use Rattle.pipe_top.proofs.audit.read_source.Goals as goal
 
 pub returns-then-read-n-gt-MOST_BYTES : goal.returns-then-read-n-gt-MOST_BYTES
