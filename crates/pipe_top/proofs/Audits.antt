@@ -38,20 +38,6 @@ pub record ReadSoFar (wanted : Topology) (old now : SourceSeen) (audit : AuditSe
   pub within : audit.read ≤ most_bytes
   pub audits : Audits wanted came audit
 
--- nothing came
-pub none_read : (wanted : Topology) (source : SourceSeen) (audit : AuditSeen) → Audits wanted [] audit → audit.read ≡ 0 → ReadSoFar wanted source source audit
-none_read wanted source audit audits none = record {
-  came = [];
-  same_telling = refl;
-  from_left = λ t. refl;
-  into_taken = λ t. sym (append-nil source.taken);
-  faults_stay = omega arith;
-  waits_stay = omega arith;
-  counted = none;
-  within = omega (arith, none);
-  audits = audits;
-}
-
 -- a piece came
 came_left : (old now next : SourceSeen) (came part : List ℕ) → (IsTrue old.told → old.left ≡ came ++ now.left) → (IsTrue old.told → now.left ≡ part ++ next.left) → IsTrue old.told → old.left ≡ (came ++ part) ++ next.left
 came_left old now next came part from more t = from t ∙ (ap (λ (x : List ℕ). came ++ x) (more t) ∙ sym (append_assoc came part next.left))

@@ -8,7 +8,7 @@ use Rattle.std.specs.Prelude.{Result}
 use Rattle.stage_bodies.specs.Seen.{source_seen}
 use Rattle.pipe_top.specs.Audits.{ReadOnce}
 use Rattle.pipe_top.specs.Flows.{ReadsSource}
-use Rattle.pipe_top.proofs.Audits.{more_read, large_read, end_read}
+use Rattle.pipe_top.proofs.Audits.{more_read, large_read, wait_read, fault_read, end_read}
 use Rattle.pipe_top.proofs.audit.read_source.Goals as goal
 
 pub returns-then-read-n-gt-MOST_BYTES : goal.returns-then-read-n-gt-MOST_BYTES
@@ -49,3 +49,17 @@ returns-in-End g c =
     let once : ReadOnce now next piece End = subst (ReadOnce now next piece) c.in-End.is c.read_piece.ensures.read in
     subst (λ (end : Result Summary AuditFault). ReadsSource end c.args.topology.now old next) (sym c.found.ensures)
     (end_read c.args.topology.now old now next c.loop-n.audit piece c.verdict.result c.requires.sound c.loop-n.invariant.so_far once c.verdict.ensures.verdict c.verdict.ensures.said)
+
+pub returns-in-Failed : goal.returns-in-Failed
+returns-in-Failed g c =
+    let now = source_seen g.B.ByteSource c.loop-n.source in
+    let next = source_seen g.B.ByteSource c.read_piece.new.source in
+    let piece = c.read_piece.new.piece.items in
+    fault_read c.args.topology.now (source_seen g.B.ByteSource c.args.source.now) now next c.loop-n.audit piece c.loop-n.invariant.so_far (subst (ReadOnce now next piece) c.in-Failed.is c.read_piece.ensures.read)
+
+pub returns-in-Empty : goal.returns-in-Empty
+returns-in-Empty g c =
+    let now = source_seen g.B.ByteSource c.loop-n.source in
+    let next = source_seen g.B.ByteSource c.read_piece.new.source in
+    let piece = c.read_piece.new.piece.items in
+    wait_read c.args.topology.now (source_seen g.B.ByteSource c.args.source.now) now next c.loop-n.audit piece c.loop-n.invariant.so_far (subst (ReadOnce now next piece) c.in-Empty.is c.read_piece.ensures.read)
