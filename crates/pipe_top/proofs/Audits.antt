@@ -9,20 +9,18 @@ use Rattle.pipe_model.specs.History.{History}
 use Rattle.pipe_edges.specs.declared.edges.EdgeKind.{EdgeKind}
 use Rattle.pipe_edges.specs.declared.edges.EdgeKind.TheVariants.{Source as SourceKind}
 use Rattle.pipe_edges.specs.declared.edges.EdgeEnd.TheVariants as edge
-use Rattle.pipe_edges.specs.declared.source.ReadEnd.{ReadEnd}
 use Rattle.pipe_edges.specs.declared.source.ReadEnd.TheVariants.{Got, End, Failed, Empty}
-use Rattle.pipe_edges.specs.Reads.{ReadsBytes, ReadHasCause}
 use Rattle.stage_bodies.specs.Seen.{SourceSeen}
 use Rattle.edge_names.specs.Seen.{EdgesSeen}
 use Rattle.edge_names.specs.Named.{GivesSource, Opens, BacksSource}
 use Rattle.run_verdicts.specs.Judged.{Summary, Judgement, Legal, Bad, verdict_in, IsSaid, AuditSeen, Audits}
 use Rattle.run_verdicts.specs.declared.audits.AuditFault.{AuditFault}
-use Rattle.run_verdicts.specs.declared.audits.AuditFault.TheVariants.{Line, Large, Wait, Source}
+use Rattle.run_verdicts.specs.declared.audits.AuditFault.TheVariants.{Large, Wait, Source}
 use Rattle.run_verdicts.specs.declared.verdict.Refusal.{Refusal}
 use Rattle.run_verdicts.specs.declared.verdict.Refusal.TheVariants.{Usage, Topology as NoTopology, Stock, Edge, Audit, Memory}
 use Rattle.run_verdicts.specs.declared.verdict.Verdict.{Verdict}
 use Rattle.run_verdicts.specs.declared.verdict.Verdict.TheVariants.{Refused}
-use Rattle.pipe_top.specs.Audits.{most_bytes, IsFound, found_by, FaultHasCause, IsAuditOf, MayBeBack}
+use Rattle.pipe_top.specs.Audits.{most_bytes, IsFound, found_by, FaultHasCause, ReadOnce, IsAuditOf, MayBeBack}
 use Rattle.pipe_top.specs.Runs.{OutsideSeen, IsJournalBack, FailsAt}
 use Rattle.pipe_top.specs.Flows.{IsAuditedOrNot, ReadsSource, JudgesSource, IsJudged, IsJudgedBy, JudgesOpened, JudgesJournal, AskedJournal, ReadsJournal, ComesAudited}
 
@@ -39,28 +37,6 @@ pub record ReadSoFar (wanted : Topology) (old now : SourceSeen) (audit : AuditSe
   pub counted : audit.read ≡ length came
   pub within : audit.read ≤ most_bytes
   pub audits : Audits wanted came audit
-
--- what a read does to it
-pub record ReadOnce (now next : SourceSeen) (piece : List ℕ) (end : ReadEnd) : Type 0 where
-  pub same_telling : next.told ≡ now.told
-  pub bytes : IsTrue now.told → ReadsBytes now.taken now.left piece next.taken next.left end
-  pub faults_stay : now.faults ≤ next.faults
-  pub waits_stay : now.waits ≤ next.waits
-  pub cause : ReadHasCause now.faults next.faults now.waits next.waits end
-
--- nothing came
-pub none_read : (wanted : Topology) (source : SourceSeen) (audit : AuditSeen) → Audits wanted [] audit → audit.read ≡ 0 → ReadSoFar wanted source source audit
-none_read wanted source audit audits none = record {
-  came = [];
-  same_telling = refl;
-  from_left = λ t. refl;
-  into_taken = λ t. sym (append-nil source.taken);
-  faults_stay = omega arith;
-  waits_stay = omega arith;
-  counted = none;
-  within = omega (arith, none);
-  audits = audits;
-}
 
 -- a piece came
 came_left : (old now next : SourceSeen) (came part : List ℕ) → (IsTrue old.told → old.left ≡ came ++ now.left) → (IsTrue old.told → now.left ≡ part ++ next.left) → IsTrue old.told → old.left ≡ (came ++ part) ++ next.left

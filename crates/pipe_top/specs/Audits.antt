@@ -2,6 +2,8 @@
 use Rattle.std.specs.Prelude.{◌≡◌, ◌<◌, ◌≤◌, ◌⊎◌, ℕ, List, [], ◌∷◌, ◌++◌, length, IsTrue, Result, Ok, Err}
 use Rattle.pipe_types.specs.Counts.{Rose}
 use Rattle.pipe_types.specs.declared.topology.Topology.{Topology}
+use Rattle.pipe_edges.specs.declared.source.ReadEnd.{ReadEnd}
+use Rattle.pipe_edges.specs.Reads.{ReadsBytes, ReadHasCause}
 use Rattle.stage_bodies.specs.Seen.{SourceSeen}
 use Rattle.edge_names.specs.Seen.{EdgesSeen}
 use Rattle.edge_names.specs.Named.{GivesSource}
@@ -36,6 +38,14 @@ abbrev pub FaultHasCause : (faults faults' waits waits' : ℕ) → Result Summar
 FaultHasCause faults faults' waits waits' (Err Source) = Rose faults faults'
 FaultHasCause faults faults' waits waits' (Err Wait) = Rose waits waits'
 FaultHasCause faults faults' waits waits' _ = Unit {0}
+
+-- a read into a piece
+pub record ReadOnce (old new : SourceSeen) (piece : List ℕ) (end : ReadEnd) : Type 0 where
+  pub same_telling : new.told ≡ old.told
+  pub bytes : IsTrue old.told → ReadsBytes old.taken old.left piece new.taken new.left end
+  pub faults_stay : old.faults ≤ new.faults
+  pub waits_stay : old.waits ≤ new.waits
+  pub cause : ReadHasCause old.faults new.faults old.waits new.waits end
 
 -- the journal's source was opened, read and given back, and this was found of what it told
 pub record IsAuditOf (name : List ℕ) (end : Result Summary AuditFault) (wanted : Topology) (old new : EdgesSeen) : Type 0 where

@@ -1,11 +1,11 @@
 //! The journal of an audit.
 
-ghost use Rattle.std.specs.Prelude.{◌≡◌, List, ℕ, IfOk};
+ghost use Rattle.std.specs.Prelude.{◌≡◌, List, ℕ, length, IfOk};
 ghost use Rattle.pipe_types.specs.Sound.{IsSound};
-ghost use Rattle.pipe_edges.specs.declared.edges.EdgeKind.TheVariants.{Source};
+ghost use Rattle.pipe_edges.specs.{declared.edges.EdgeKind.TheVariants.{Source}, Reads.{ReadIsCounted}};
 ghost use Rattle.edge_names.specs.Named.{GivesSource, Opens, BacksSource};
 ghost use Rattle.run_verdicts.specs.Verdicts.{CanBeShown};
-ghost use Rattle.pipe_top.specs.{Audits.{found_by}, Flows.{IsAuditedOrNot, ReadsSource, JudgesSource, JudgesOpened, ReadsJournal}};
+ghost use Rattle.pipe_top.specs.{Audits.{found_by, ReadOnce}, Flows.{IsAuditedOrNot, ReadsSource, JudgesSource, JudgesOpened, ReadsJournal}};
 
 use crate::file::text_of;
 use crate::run::{Ran, refused};
@@ -33,6 +33,16 @@ fn found(verdict: Judgement) -> Result<Summary, AuditFault>
     }
 }
 
+/// Reads once from the source into the piece.
+fn read_piece<B: ByteSource>(source: &mut B, piece: &mut Vec<u8>) -> ReadEnd
+    requires room { length piece.old.items ≡ 8192 }
+    ensures room { length piece.new.items ≡ 8192 }
+    ensures counted { ReadIsCounted 8192 result }
+    ensures read { ReadOnce (⟦<B as SeenSource>⟧.seen source.old) (⟦<B as SeenSource>⟧.seen source.new) piece.new.items result }
+{
+    source.read(piece)
+}
+
 /// Reads the source to its end, each time into one piece, and judges the lines as they come. It keeps the line that has not ended
 /// and no other text. What the lines come to is told only behind the last of them.
 fn read_source<B: ByteSource>(
@@ -47,7 +57,7 @@ fn read_source<B: ByteSource>(
     let mut piece = Vec::new(alloc);
     piece.resize(PIECE, 0)?;
     loop {
-        match source.read(&mut piece) {
+        match read_piece(source, &mut piece) {
             ReadEnd::Got(n) => {
                 if audit.read() + n as u64 > MOST_BYTES {
                     return Ok(Err(AuditFault::Large));
