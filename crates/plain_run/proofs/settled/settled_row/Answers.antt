@@ -19,7 +19,7 @@ returns-in-Some-clause-past c =
     let core = c.args.core.now in
     let here : slice_get c.args.settled.now c.args.at ≡ Some c.in-Some.no = sym c.number_at.ensures ∙ c.in-Some.is in
     let row = listed_row core.topology core.journal.steps c.args.settled.now c.args.at c.in-Some.no c.requires.holds.legal c.requires.settled here in
-    ap is_some (c.row_at.ensures ∙ row.row) ∙ in_list c.args.settled.now c.args.at c.in-Some.no here
+    ap is_some c.row_at.ensures ∙ (row.row ∙ in_list c.args.settled.now c.args.at c.in-Some.no here)
 
 pub returns-in-None-clause-past : goal.returns-in-None-clause-past
 returns-in-None-clause-past c = past_list c.args.settled.now c.args.at (sym c.number_at.ensures ∙ c.in-None.is)
