@@ -3,3 +3,4 @@ pub mod Verdicts
 pub mod Lines
 pub mod AuditSeen
 pub mod Pieces
+pub mod Counts

@@ -1,8 +1,0 @@
-use Rattle.std.proofs.Common.{◌≡◌, take}
-use Rattle.std.specs.Prelude.{count_by}
-use Rattle.journal_texts.specs.Report.{is_failed}
-use Rattle.journal_audit.proofs.summary.failures.Given as goal
-
--- those so far
-abbrev pub invariant-loop-at : goal.invariant-loop-at
-invariant-loop-at l = l.count ≡ count_by is_failed (take l.at l.places.items)
