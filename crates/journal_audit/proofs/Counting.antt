@@ -1,5 +1,5 @@
 -- How many places pass a test.
-use Rattle.std.proofs.Common.{ℕ, ◌≤◌, Bool, List, length}
+use Rattle.std.proofs.Common.{◌≤◌, Bool, List, length}
 use Rattle.std.specs.Prelude.{count_by}
 use Rattle.std.proofs.lemmas.List.Sums.{count_by-le-length}
 use Rattle.pipe_types.specs.declared.message.Place.{Place}
