@@ -8,7 +8,7 @@ use crate::entry::{Entry, pack};
 use crate::items::ReplyView;
 use crate::kept::Kept;
 use crate::store::Store;
-use crate::view::{StepView, view_entry};
+use crate::view::{StepView, records_in, replies_in, view_entry};
 use pipe_types::step::Step;
 use slab::Slab;
 use std::alloc::{AllocError, Global};
@@ -160,23 +160,25 @@ impl Journal {
 
     /// The record at place `item` of the Accept or of the late answer at place `at`, both from 0, and none where no such
     /// record is.
+    #[inline(always)]
     pub fn payload_at(&self, at: u64, item: u32) -> Option<&[u8]>
         ensures { option_copied result ≡ payload_at self.now.steps at item }
     {
         if self.len() <= at {
             return None;
         }
-        self.view(at).records().get(item as usize)
+        records_in(&self.store, self.entries[at as usize]).get(item as usize)
     }
 
     /// The reply at place `item` of the Done at place `at`, both from 0, or of the ChildEnd there with `item` 0, and none
     /// where no such reply is.
+    #[inline(always)]
     pub fn reply_at(&self, at: u64, item: u32) -> Option<ReplyView<'_>>
         ensures { option_map reply_seen result ≡ reply_at self.now.steps at item }
     {
         if self.len() <= at {
             return None;
         }
-        self.view(at).replies().get(item as usize)
+        replies_in(&self.store, self.entries[at as usize]).get(item as usize)
     }
 }
