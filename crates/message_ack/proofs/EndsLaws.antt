@@ -144,7 +144,7 @@ pub alone_answered : (messages : ℕ) (ends front : List (Option LegEnd)) (outco
     → All (HasOutcomes messages) ends → (legs : List Leg) → ends_of legs ≡ ends → IsSettledBy messages legs (Outcomes outcomes)
 alone_answered messages ends front outcomes popped one has legs same =
     let alone : ends ≡ Some (AnsweredEnd outcomes) ∷ [] = popped ∙ last_of_one front _ (ap length (sym popped) ∙ one) in
-    let long : length outcomes ≡ messages = All-head (HasOutcomes messages) _ _ (subst (All (HasOutcomes messages)) alone has) in
+    let long : length outcomes ≡ messages = All-head (HasOutcomes messages) (Some (AnsweredEnd outcomes)) [] (subst (All (HasOutcomes messages)) alone has) in
     settled_outcomes messages legs (Some (AnsweredEnd outcomes) ∷ []) outcomes (same ∙ alone) refl
     (λ i. outcome_alone outcomes i ∙ ap (λ (n : ℕ). cond (nat_lt i n) (Some (outcome_of_ends (Some (AnsweredEnd outcomes) ∷ []) i)) None) long)
 
