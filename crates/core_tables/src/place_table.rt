@@ -355,6 +355,7 @@ impl PlaceTable {
     }
 
     /// The place there, from 0, and none past the end.
+    #[inline(always)]
     pub fn get(&self, at: usize) -> Option<Place>
         ensures { result ≡ slice_get self.now.items at }
     {

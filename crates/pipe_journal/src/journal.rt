@@ -87,6 +87,7 @@ impl Journal {
     }
 
     /// Writes the step into room that was made before.
+    #[inline(always)]
     pub fn push_spare(&mut self, step: Step)
         requires { 1 ≤ self.old.spare }
         ensures written { self.new.steps ≡ step ∷ self.old.steps }
