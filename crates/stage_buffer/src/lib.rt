@@ -143,6 +143,20 @@ impl<T: Drop> Buffer<T> {
         self.len
     }
 
+    /// How many parts there are.
+    pub fn part_count(&self) -> u32
+        ensures { result ≡ self.now.parts }
+    {
+        self.rings.len() as u32
+    }
+
+    /// How many units ever arrived.
+    pub fn arrived(&self) -> u64
+        ensures { result ≡ self.now.arrived }
+    {
+        self.arrived
+    }
+
     /// Whether no unit waits.
     pub fn is_empty(&self) -> bool
         ensures { result ≡ (length self.now.units == 0) }
@@ -159,6 +173,19 @@ impl<T: Drop> Buffer<T> {
         ensures shape { KeepsShape self.old self.new }
     {
         let arrived = pop_first(&mut self.rings, part as usize)?;
+        self.len -= 1;
+        Some(arrived.unit)
+    }
+
+    /// Takes the oldest unit of all out.
+    pub fn pop(&mut self) -> Option<T>
+        ensures unit { result ≡ option_map (λ u. u.1) (slice_get self.old.units 0) }
+        ensures units { self.new.units ≡ drop 1 self.old.units }
+        ensures spare { KeepsSpare self.old self.new }
+        ensures arrived { self.new.arrived ≡ self.old.arrived }
+        ensures shape { KeepsShape self.old self.new }
+    {
+        let arrived = pop_oldest(&mut self.rings)?;
         self.len -= 1;
         Some(arrived.unit)
     }
