@@ -3,6 +3,7 @@ use Rattle.std.specs.Prelude.{◌≡◌, ℕ, zero, suc, ◌-◌, ◌^◌, min, 
 use Rattle.pipe_types.specs.declared.numbers.StageNo.{StageNo}
 use Rattle.pipe_types.specs.declared.topology.StageSpec.{StageSpec}
 use Rattle.pipe_types.specs.declared.topology.Keep.{Keep}
+use Rattle.pipe_types.specs.declared.topology.Keep.TheVariants.{Last}
 use Rattle.pipe_types.specs.declared.topology.Dispatch.{Dispatch}
 use Rattle.pipe_types.specs.declared.topology.Dispatch.TheVariants.{Demand, Broadcast, Partition}
 use Rattle.stage_buffer.specs.Waiting.{Waiting, spare_of}
@@ -57,3 +58,15 @@ parts_by Broadcast n = 1
 -- the buffer that the stage is to have
 abbrev pub shape_for : StageSpec → Shape
 shape_for spec = record { parts = parts_by spec.dispatch spec.parts; size = spec.size; keep = spec.keep }
+
+-- the control source has a buffer of one part
+abbrev pub no_shape : Shape
+no_shape = record { parts = 1; size = None; keep = Last }
+
+-- what waits in a buffer, and its shape
+abbrev pub seen : Waiting ℕ → List (ℕ × ℕ) × Shape
+seen w = (w.units, shape_of w)
+
+-- nothing waits in the stage's buffer
+abbrev pub new_for : StageSpec → List (ℕ × ℕ) × Shape
+new_for spec = ([], shape_for spec)

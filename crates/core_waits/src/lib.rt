@@ -5,14 +5,47 @@
 //! `make_room` takes memory or lowers what it says by more than the units that come.
 #![tactic(auto)]
 
-ghost use Rattle.std.specs.Prelude.{◌≡◌, ℕ, ◌+◌, ◌∷◌, [], ◌++◌, ◌<◌, ◌≤◌, length, drop, slice_get, if◌then◌else◌, ◌==◌, true, false, OnOk, IfSome};
+ghost use Rattle.std.specs.Prelude.{◌≡◌, ℕ, ◌+◌, ◌∷◌, [], ◌++◌, ◌<◌, ◌≤◌, length, map, drop, slice_get, if◌then◌else◌, ◌==◌, true, false, OnOk, IfOk, IfSome};
 ghost use Rattle.pipe_types.specs.declared.numbers.StageNo.{StageNo as Stage};
 ghost use Rattle.stage_buffer.specs.Waiting.{KeepsShape, units_of_part, without_first, over_unit, without_over};
-ghost use Rattle.core_waits.specs.Waits.{numbers_left, free, units_at, free_at, shape_at};
+ghost use Rattle.core_waits.specs.Waits.{numbers_left, free, units_at, free_at, shape_of, shape_at, parts_by, shape_for, no_shape, seen, new_for};
 
 use pipe_types::numbers::StageNo;
+use pipe_types::topology::{Dispatch, Keep, StageSpec};
 use stage_buffer::Buffer;
-use std::alloc::AllocError;
+use std::alloc::{AllocError, Global};
+
+/// How many parts the stage's buffer has.
+fn parts_of(spec: &StageSpec) -> u32
+    ensures { result ≡ parts_by spec.now.dispatch spec.now.parts }
+{
+    match spec.dispatch {
+        Dispatch::Partition => spec.parts,
+        Dispatch::Demand | Dispatch::Broadcast => 1,
+    }
+}
+
+/// The stage's buffer, in which nothing waits.
+fn new_buffer(alloc: Global, spec: &StageSpec) -> Result<Buffer<u32>, AllocError>
+    ensures empty { IfOk result (λ w. w.units ≡ []) }
+    ensures shape { IfOk result (λ w. shape_of w ≡ shape_for spec.now) }
+{
+    Buffer::new(alloc, parts_of(spec), spec.size, spec.keep)
+}
+
+/// A buffer for each stage, behind one for the control source. Nothing waits in any.
+pub fn new_buffers(alloc: Global, stages: &[StageSpec]) -> Result<Vec<Buffer<u32>>, AllocError>
+    ensures { IfOk result (λ waiting. map seen waiting.items ≡ ([], no_shape) ∷ map new_for stages.now) }
+{
+    let mut waiting = Vec::new(alloc);
+    let first = Buffer::new(alloc, 1, None, Keep::Last)?;
+    waiting.push(first)?;
+    for spec in stages {
+        let buffer = new_buffer(alloc, spec)?;
+        waiting.push(buffer)?;
+    }
+    Ok(waiting)
+}
 
 /// Whether so many units more have numbers.
 fn has_numbers(queue: &Buffer<u32>, units: usize) -> bool
