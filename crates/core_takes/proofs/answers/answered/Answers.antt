@@ -8,8 +8,9 @@ use Rattle.pipe_model.specs.Posts.{last_take}
 use Rattle.pipe_model.specs.Content.{has_crash}
 use Rattle.pipe_model.specs.Flow.{done}
 use Rattle.stage_subs.specs.Subs.{row_at}
-use Rattle.core_tables.specs.Tables.{queue_at, list_at}
+use Rattle.core_tables.specs.Tables.{list_at}
 use Rattle.core_laws.specs.Columns.{running}
+use Rattle.core_waits.specs.Waits.{units_at}
 use Rattle.core_state.specs.declared.state.Core.{Core}
 use Rattle.core_state.proofs.Rooms.{room_after}
 use Rattle.core_state.proofs.Steps.{holds_after, log_fits, log_noted}
@@ -121,7 +122,7 @@ returns-clause-holds c =
       posts-is = c.come_home.ensures.posts;
       posts-len = c.come_home.ensures.len;
       pairs = λ q r. c.count_taken.ensures q r ∙ ap (λ t. counted_on t q r (row_at core.subs q r)) took;
-      queues = λ t. c.queue_passed.ensures.queued t ∙ ap (λ (ms : List Reply). if b then (if s.0 == t.0 then queue_at core.waiting.items t ++ passed_parts p ms else queue_at core.waiting.items t) else queue_at core.waiting.items t) c.as_slice-4.ensures;
+      queues = λ t. c.queue_passed.ensures.queued t ∙ ap (λ (ms : List Reply). if b then (if s.0 == t.0 then units_at core.waiting.items t ++ passed_parts p ms else units_at core.waiting.items t) else units_at core.waiting.items t) c.as_slice-4.ensures;
       queues-len = c.queue_passed.ensures.len;
       cleared = c.clear_chunk.ensures.cleared;
       cleared-len = c.clear_chunk.ensures.len;
