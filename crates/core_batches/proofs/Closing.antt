@@ -54,13 +54,14 @@ use Rattle.core_laws.specs.Columns.{closed_numbers, sent_on, ends_in_progress, o
 use Rattle.core_laws.proofs.Lawful.{legal_after}
 use Rattle.core_laws.proofs.Past.{known_within, live_known}
 use Rattle.core_laws.proofs.LegsOn.{none_sent, waiting_closed}
-use Rattle.core_waits.specs.Waits.{units_at, shape_at, shape_for, parts_by, free_at}
+use Rattle.core_waits.specs.Waits.{Shape, units_at, shape_at, shape_for, parts_by, free_at}
+use Rattle.core_waits.proofs.Parts.{partition_low}
 use Rattle.stage_buffer.specs.Waiting.{Waiting}
 use Rattle.core_state.specs.declared.state.Core.{Core}
 use Rattle.core_state.specs.Room.{Roomy}
 use Rattle.core_state.specs.Stands.{Fields, Stands, opens_in, opens_at, closed_seen, KeepsLog}
 use Rattle.core_state.proofs.Reading.{some_at}
-use Rattle.core_batches.specs.Closes.{without_open, HasParts}
+use Rattle.core_batches.specs.Closes.{batch_part, without_open, HasParts}
 use Rattle.core_batches.proofs.Limits.{flip, limits_after}
 use Rattle.core_batches.proofs.Opens.{each_same}
 use Rattle.core_batches.proofs.Removing.{others, opens_removed, opens_closed, open_at, of_some_key, each_of_all, each_mapped, first_is, key_of_first}
@@ -489,7 +490,7 @@ spec_here topology s sound low high =
     (found.0, record { there = found.1; known = ap (spec_of topology) (sym same) ∙ t.found (s.0 - 1) found.0 found.1 })
 
 -- a batcher that dispatches by partition has a part
-has_parts : (topology : Topology) (s : StageNo) (spec : StageSpec) → IsSound topology → spec_of topology s ≡ Some spec → has_role topology s is_batcher_role ≡ true → HasParts spec
+pub has_parts : (topology : Topology) (s : StageNo) (spec : StageSpec) → IsSound topology → spec_of topology s ≡ Some spec → has_role topology s is_batcher_role ≡ true → HasParts spec
 has_parts topology s spec sound e role =
     record {
       some = by spec.dispatch
@@ -518,6 +519,17 @@ pub parts_here : (topology : Topology) (s : StageNo) → IsSound topology → ha
 parts_here topology s sound role low high =
     let found = spec_here topology s sound low high in
     subst (λ (o : Option StageSpec). IfSome o HasParts) (sym found.1.there) (has_parts topology s found.0 sound found.1.known role)
+
+-- the partition of a batch is one of its stage's buffer
+pub low_part : (ws : List (Waiting ℕ)) (s : StageNo) (spec : StageSpec) (part : ℕ) (key : List ℕ) → shape_at ws s ≡ Some (shape_for spec) → part ≡ batch_part (Some spec) key → HasParts spec
+    → IfSome (shape_at ws s) (λ shape. part < shape.parts)
+low_part ws s spec part key shape is has =
+    subst (λ (o : Option Shape). IfSome o (λ x. part < x.parts)) (sym shape) (subst (λ n. n < parts_by spec.dispatch spec.parts) (sym is) (by spec.dispatch has.some))
+  where
+    by : (d : DispatchKind) → (d ≡ Partition → 1 ≤ spec.parts) → (if is_by_partition d then partition_of key spec.parts else 0) < parts_by d spec.parts
+    by Partition h = partition_low key spec.parts (h refl)
+    by Demand h = omega arith
+    by Broadcast h = omega arith
 
 -- Where the journal and the tables made room alone, the core stands
 pub roomy_stands : (core : Core) (j : Recorded) (rows : Vec BatchRow Global) (queues : Vec (Waiting ℕ) Global) → Stands core → j.steps ≡ core.journal.steps → rows.items ≡ core.batches.items

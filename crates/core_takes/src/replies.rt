@@ -1,7 +1,6 @@
 //! What the replies to a chunk do to the tables.
 
 ghost use Rattle.std.specs.Prelude.{◌≡◌, ℕ, suc, ◌∷◌, [], ◌+◌, ◌<◌, ◌≤◌, ◌^◌, ◌++◌, length, All, Some, false, IfSome, option_map, slice_get, if◌then◌else◌, ◌==◌, true, OnOk, vec_capacity};
-ghost use Rattle.std.specs.VecDeque.{deque_len, deque_capacity};
 ghost use Rattle.pipe_types.specs.declared.numbers.StageNo.{StageNo as Stage};
 ghost use Rattle.pipe_model.specs.{Content.{has_crash}, Flow.{answered, done}};
 ghost use Rattle.stage_subs.specs.Subs.{row_of, row_at, IsChanged};
@@ -128,8 +127,10 @@ fn note_one(contents: &mut Vec<ContentRow>, entry: u64, item: u32, reply: &Reply
 
 /// Puts the messages that the replies pass on behind the others, each with its partition.
 fn pass_on(queue: &mut Buffer<u32>, by_partition: bool, replies: &[Reply])
-    requires { deque_len queue.old + length replies.now ≤ deque_capacity queue.old }
-    ensures { queue.new.items ≡ queue.old.items ++ passed_parts by_partition replies.now }
+    requires parts { All (HasPart queue.old.parts by_partition) replies.now }
+    requires room { length replies.now ≤ free queue.old }
+    ensures units { queue.new.units ≡ queue.old.units ++ passed_parts by_partition replies.now }
+    ensures shape { KeepsShape queue.old queue.new }
 {
     for reply in replies {
         push_passed(queue, by_partition, reply);
@@ -145,13 +146,18 @@ fn part_of(by_partition: bool, batcher: u16) -> u32
 
 /// Puts the message behind the others, where the reply passes it on.
 fn push_passed(queue: &mut Buffer<u32>, by_partition: bool, reply: &Reply)
-    requires { deque_len queue.old < deque_capacity queue.old }
-    ensures items { queue.new.items ≡ queue.old.items ++ passed_parts by_partition (reply.now ∷ []) }
-    ensures len { deque_len queue.new ≤ deque_len queue.old + 1 }
-    ensures capacity { deque_capacity queue.new ≡ deque_capacity queue.old }
+    requires part { HasPart queue.old.parts by_partition reply.now }
+    requires room { 1 ≤ free queue.old }
+    ensures units { queue.new.units ≡ queue.old.units ++ passed_parts by_partition (reply.now ∷ []) }
+    ensures shape { KeepsShape queue.old queue.new }
+    ensures rooms { free queue.old ≤ free queue.new + 1 }
 {
     if let Reply::Pass(message) = reply {
-        queue.push_back_reserved((part_of(by_partition, message.batcher), message.no.0));
+        put(
+            queue,
+            part_of(by_partition, message.batcher),
+            message.no.0,
+        );
     }
 }
 
@@ -164,9 +170,11 @@ pub(crate) fn queue_passed(
     replies: &[Reply],
 )
     requires within { stage.0 < length waiting.old.items }
+    requires parts { IfSome (shape_at waiting.old.items stage) (λ shape. All (HasPart shape.parts by_partition) replies.now) }
     requires room { passes_on ≡ true → length replies.now ≤ free_at waiting.old.items stage }
     ensures rooms { (s : Stage) → (stage.0 == s.0) ≡ false → free_at waiting.new.items s ≡ free_at waiting.old.items s }
     ensures queued { (s : Stage) → units_at waiting.new.items s ≡ (if passes_on then (if stage.0 == s.0 then units_at waiting.old.items s ++ passed_parts by_partition replies.now else units_at waiting.old.items s) else units_at waiting.old.items s) }
+    ensures shapes { (s : Stage) → shape_at waiting.new.items s ≡ shape_at waiting.old.items s }
     ensures len { length waiting.new.items ≡ length waiting.old.items }
 {
     if passes_on {
@@ -182,32 +190,18 @@ fn queue_all(
     replies: &[Reply],
 )
     requires within { stage.0 < length waiting.old.items }
+    requires parts { IfSome (shape_at waiting.old.items stage) (λ shape. All (HasPart shape.parts by_partition) replies.now) }
     requires room { length replies.now ≤ free_at waiting.old.items stage }
     ensures rooms { (s : Stage) → (stage.0 == s.0) ≡ false → free_at waiting.new.items s ≡ free_at waiting.old.items s }
     ensures queued { (s : Stage) → units_at waiting.new.items s ≡ (if stage.0 == s.0 then units_at waiting.old.items s ++ passed_parts by_partition replies.now else units_at waiting.old.items s) }
+    ensures shapes { (s : Stage) → shape_at waiting.new.items s ≡ shape_at waiting.old.items s }
     ensures len { length waiting.new.items ≡ length waiting.old.items }
 {
     let queue = &mut waiting[stage.0 as usize];
     pass_on(queue, by_partition, replies);
 }
 
-/// Makes room for so many units more that wait in the stage. The queues hold what they held.
-pub(crate) fn make_queue_room(
-    waiting: &mut Vec<Buffer<u32>>,
-    stage: StageNo,
-    units: usize,
-) -> Result<(), AllocError>
-    requires within { stage.0 < length waiting.old.items }
-    ensures same { (s : Stage) → units_at waiting.new.items s ≡ units_at waiting.old.items s }
-    ensures len { length waiting.new.items ≡ length waiting.old.items }
-    ensures room { OnOk result (units ≤ free_at waiting.new.items stage) }
-    ensures rooms { (s : Stage) → free_at waiting.old.items s ≤ free_at waiting.new.items s }
-{
-    let queue = &mut waiting[stage.0 as usize];
-    queue.reserve(units)
-}
-
-/// Makes that room where the stage passes messages on.
+/// Makes room for so many units more that wait in the stage, where it passes messages on. The buffers hold what they held.
 pub(crate) fn make_room_behind(
     waiting: &mut Vec<Buffer<u32>>,
     stage: StageNo,
@@ -216,6 +210,7 @@ pub(crate) fn make_room_behind(
 ) -> Result<(), AllocError>
     requires within { stage.0 < length waiting.old.items }
     ensures same { (s : Stage) → units_at waiting.new.items s ≡ units_at waiting.old.items s }
+    ensures shapes { (s : Stage) → shape_at waiting.new.items s ≡ shape_at waiting.old.items s }
     ensures len { length waiting.new.items ≡ length waiting.old.items }
     ensures room { OnOk result (passes_on ≡ true → units ≤ free_at waiting.new.items stage) }
     ensures rooms { (s : Stage) → free_at waiting.old.items s ≤ free_at waiting.new.items s }
@@ -223,7 +218,7 @@ pub(crate) fn make_room_behind(
     if !passes_on {
         return Ok(());
     }
-    make_queue_room(waiting, stage, units)
+    make_room(waiting, stage, units)
 }
 
 /// Empties the stage's chunk.

@@ -1,3 +1,4 @@
 pub mod Free
 pub mod Columns
 pub mod New
+pub mod Parts
