@@ -4,16 +4,18 @@ ghost use Rattle.std.specs.Prelude.{◌≡◌, ℕ, suc, ◌∷◌, [], ◌+◌,
 ghost use Rattle.pipe_types.specs.declared.numbers.StageNo.{StageNo as Stage};
 ghost use Rattle.pipe_model.specs.{Content.{has_crash}, Flow.{answered, done}};
 ghost use Rattle.stage_subs.specs.Subs.{row_of, row_at, IsChanged};
-ghost use Rattle.core_waits.specs.Waits.{units_at, free_at};
+ghost use Rattle.stage_buffer.specs.Waiting.{KeepsShape};
+ghost use Rattle.core_waits.specs.Waits.{units_at, free, free_at, shape_at};
 ghost use Rattle.core_tables.specs.{Answers.{done_as}, Tables.{list_at}};
-ghost use Rattle.core_takes.specs.Replies.{passed_parts, ends, marked, noted, HasRow, handled_on, counted_on};
+ghost use Rattle.core_takes.specs.Replies.{passed_parts, ends, marked, noted, HasRow, HasPart, handled_on, counted_on};
 
 use core_tables::place_table::PlaceTable;
 use core_tables::rows::ContentRow;
+use core_waits::{make_room, put};
 use pipe_types::message::{Outcome, Place, Reply};
 use pipe_types::numbers::{StageNo, SubNo};
-use stage_subs::Subs;
 use stage_buffer::Buffer;
+use stage_subs::Subs;
 use std::alloc::AllocError;
 
 /// Where a reply leaves a message of the stage.
