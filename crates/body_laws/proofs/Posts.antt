@@ -19,7 +19,7 @@ use Rattle.pipe_model.specs.Legal.{is_legal, allows, has_role, is_supervisor_rol
 use Rattle.pipe_laws.proofs.Tests.{clash, and_left, and_right, same_stage-true, same_stage-self}
 use Rattle.pipe_laws.proofs.Allowed.{legal_before, legal_step, take_facts, fetch_role, child_facts}
 use Rattle.queue_laws.proofs.Children.{new_below}
-use Rattle.wait_laws.proofs.Contents.{some_role}
+pub use Rattle.wait_laws.proofs.Contents.{some_role}
 use Rattle.stage_laws.proofs.FewSlots.{children}
 use Rattle.stage_laws.proofs.Numbering.{numbered_topology}
 use Rattle.stage_bodies.specs.Posts.{place_at}

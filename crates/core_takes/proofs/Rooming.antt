@@ -26,14 +26,14 @@ use Rattle.core_tables.specs.Tables.{list_at, room_at}
 use Rattle.core_laws.specs.Columns.{closed_numbers}
 use Rattle.core_laws.specs.Due.{due_steps, taken_size}
 use Rattle.core_laws.proofs.Due.{answer_due}
-use Rattle.core_waits.specs.Waits.{units_at, free_at}
+use Rattle.core_waits.specs.Waits.{shape_at, shape_for, units_at, free_at}
 use Rattle.stage_buffer.specs.Waiting.{Waiting}
 use Rattle.core_state.specs.declared.state.Core.{Core}
 use Rattle.core_state.specs.Room.{Roomy}
 use Rattle.core_state.specs.Stands.{Fields, Holds, Stands}
 use Rattle.core_state.proofs.Rooms.{room_due, rows_kept, same_rows, ends_kept}
 use Rattle.core_takes.proofs.TakenBatch.{first_taken}
-use Rattle.core_state.proofs.Parts.{Part, ChunksAre, ChunksLen, EndsLen, WaitingAre, WaitingLen, Says, unchanged, fields_of}
+use Rattle.core_state.proofs.Parts.{Part, ChunksAre, ChunksLen, EndsLen, WaitingAre, WaitingLen, WaitingSet, Says, unchanged, fields_of}
 
 pub if_other : {A : Type 0} (b : Bool) (x y : A) → b ≡ false → (if b then x else y) ≡ y
 if_other true x y e = cc
@@ -144,6 +144,7 @@ pub record MoreRoom (core : Core) (c : Vec (Vec ℕ Global) Global) (w : Vec (Wa
   pub chunks : (t : StageNo) → list_at c.items t ≡ list_at core.chunks.items t
   pub chunks_len : length c.items ≡ length core.chunks.items
   pub queues : (t : StageNo) → units_at w.items t ≡ units_at core.waiting.items t
+  pub shapes : (t : StageNo) → shape_at w.items t ≡ shape_at core.waiting.items t
   pub queues_len : length w.items ≡ length core.waiting.items
   pub queues_room : (t : StageNo) → free_at core.waiting.items t ≤ free_at w.items t
   pub ends_len : length e.items ≡ length core.ends.items
@@ -157,6 +158,7 @@ more_fields core c w e topology before x more = fields_of says
     says WaitingLen = more.queues_len ∙ x.sized.waiting
     says ChunksLen = more.chunks_len ∙ x.sized.chunks
     says EndsLen = more.ends_len ∙ x.sized.ends
+    says WaitingSet = λ t spec e. more.shapes t ∙ x.set.waiting t spec e
     says WaitingAre = λ t. more.queues t ∙ x.waiting t
     says ChunksAre = λ t. more.chunks t ∙ x.chunks t
     says it = unchanged x it
@@ -189,20 +191,22 @@ chunks_stand core c x same len =
       chunks = same;
       chunks_len = len;
       queues = λ t. refl;
+      shapes = λ t. refl;
       queues_len = refl;
       queues_room = λ t. omega arith;
       ends_len = refl;
       ends_room = λ t. omega arith;
     })
 
-pub queues_stand : (core : Core) (w : Vec (Waiting ℕ) Global) → Stands core → ((t : StageNo) → units_at w.items t ≡ units_at core.waiting.items t) → length w.items ≡ length core.waiting.items
+pub queues_stand : (core : Core) (w : Vec (Waiting ℕ) Global) → Stands core → ((t : StageNo) → units_at w.items t ≡ units_at core.waiting.items t) → ((t : StageNo) → shape_at w.items t ≡ shape_at core.waiting.items t) → length w.items ≡ length core.waiting.items
     → ((t : StageNo) → free_at core.waiting.items t ≤ free_at w.items t) → Stands (record core { waiting = w })
-queues_stand core w x same len room =
+queues_stand core w x same shapes len room =
     more_stands core core.chunks w core.ends x
     (record {
       chunks = λ t. refl;
       chunks_len = refl;
       queues = same;
+      shapes = shapes;
       queues_len = len;
       queues_room = room;
       ends_len = refl;
@@ -216,6 +220,7 @@ ends_stand core e x len room =
       chunks = λ t. refl;
       chunks_len = refl;
       queues = λ t. refl;
+      shapes = λ t. refl;
       queues_len = refl;
       queues_room = λ t. omega arith;
       ends_len = len;

@@ -7,7 +7,8 @@ ghost use Rattle.stage_subs.specs.Subs.{row_of, row_at, IsChanged};
 ghost use Rattle.stage_buffer.specs.Waiting.{KeepsShape};
 ghost use Rattle.core_waits.specs.Waits.{units_at, free, free_at, shape_at};
 ghost use Rattle.core_tables.specs.{Answers.{done_as}, Tables.{list_at}};
-ghost use Rattle.core_takes.specs.Replies.{passed_parts, ends, marked, noted, HasRow, HasPart, handled_on, counted_on};
+ghost use Rattle.wait_laws.specs.Passed.{HasPart};
+ghost use Rattle.core_takes.specs.Replies.{passed_parts, ends, marked, noted, HasRow, handled_on, counted_on};
 
 use core_tables::place_table::PlaceTable;
 use core_tables::rows::ContentRow;

@@ -12,7 +12,6 @@ ghost use Rattle.core_laws.specs.Columns.{is_by_partition};
 ghost use Rattle.wait_laws.specs.Passed.{HasPart};
 
 /// What a processor passes on waits in one of the parts of its buffer.
-#[tactic(auto, using(crate::proofs::Passing::passed_law))]
 pub fn messages_pass_to_partitions()
     ensures { (topology : Topology) (before : History) (s : StageNo) (spec : StageSpec) (replies : List Reply) →
         IsSound topology → IsTrue (is_legal topology before) → spec_of topology s ≡ Some spec → IsTrue (allows topology before (Done s replies)) →
