@@ -29,7 +29,7 @@ use Rattle.core_laws.specs.Enrolled.{queued}
 use Rattle.core_laws.specs.Laws.{AcceptLaws}
 use Rattle.core_laws.proofs.Accepting.{parts_old, parts_new, opens_kept, unsettled}
 use Rattle.core_waits.specs.Waits.{units_at}
-use Rattle.stage_buffer.specs.Waiting.{Waiting}
+use Rattle.stage_buffer.specs.Waiting.{Waiting as Waits}
 use Rattle.core_state.specs.declared.state.Core.{Core}
 use Rattle.core_state.specs.Stands.{Fields}
 use Rattle.core_state.proofs.Ending.{post_home}
@@ -51,7 +51,7 @@ more : {A : Type 0} (xs ys zs : List A) (n m : ℕ) → zs ≡ xs ++ ys → leng
 more xs ys zs n m e f g = ap length e ∙ (length-append xs ys ∙ (ap (λ k. k + length ys) f ∙ ap (λ k. n + k) g))
 
 -- the tables with the new rows
-pub record Enrolled (core : Core) (before : History) (s : StageNo) (spec : StageSpec) (records : List (List ℕ)) (new : Core) (q : Waiting ℕ) : Type 0 where
+pub record Enrolled (core : Core) (before : History) (s : StageNo) (spec : StageSpec) (records : List (List ℕ)) (new : Core) (q : Waits ℕ) : Type 0 where
   pub queues : new.waiting.items ≡ set core.waiting.items s.0 q
   pub queue : q.items ≡ units_at core.waiting.items s ++ queued spec (accepted before + 1) records
   pub places : new.places.items ≡ core.places.items ++ replicate (length records) (Waiting s)
@@ -63,8 +63,8 @@ pub record Enrolled (core : Core) (before : History) (s : StageNo) (spec : Stage
   pub totals : new.totals ≡ record core.totals { accepted = core.totals.accepted + length records; bytes = core.totals.bytes + bytes_in records; quiet = 0 }
 
 pub enrolled_fields : (core : Core) (topology : Topology) (before : History) (s : StageNo) (spec : StageSpec) (records : List (List ℕ)) (j : Recorded)
-    (queues : Vec (Waiting ℕ) Global) (places : Vec Place Global) (settled : Vec ℕ Global) (producers : Vec StageNo Global) (contents : Vec ContentRow Global)
-    (posts : Vec PostRow Global) (totals : Totals) (q : Waiting ℕ)
+    (queues : Vec (Waits ℕ) Global) (places : Vec Place Global) (settled : Vec ℕ Global) (producers : Vec StageNo Global) (contents : Vec ContentRow Global)
+    (posts : Vec PostRow Global) (totals : Totals) (q : Waits ℕ)
     → Fields core topology before → IsSound topology → is_legal topology before ≡ true → AcceptLaws topology before s records → s.0 ≤ length topology.stages
     → spec_of topology s ≡ Some spec → spec.role ≡ Producer
     → Enrolled core before s spec records (record core { journal = j; posts = posts; waiting = queues; places = places; settled = settled; producers = producers; contents = contents; totals = totals }) q
