@@ -1,7 +1,7 @@
 -- By the partition rule the units of a part leave in order: each that is sent is the first of its part among those that are left.
 use Rattle.std.proofs.Common.{◌≡◌, ◌≢◌, ℕ, ◌+◌, ◌<◌, ◌≤◌, List, [], ◌∷◌, ◌++◌, map, Bool, true, false, refl, ap, sym, ◌∙◌, subst, arith, inl, inr, filter, count_by, cond, All, get_or, length, zero, suc, ⊎_elim}
 use Rattle.std.specs.Prelude.{◌⊎◌, ◌==◌, ◌&&◌, ◌||◌, nat_lt, if◌then◌else◌}
-use Rattle.std.specs.List.{enumerate_from}
+use Rattle.std.specs.List.{enumerate_from, list_any}
 use Rattle.std.proofs.lemmas.List.Sums.{sum_by-cons}
 use Rattle.std.proofs.lemmas.Bool.{cases_eq, cases_lt, eq-eqb, ne_eqb, lt-ltb, le-ltb, eqb-true}
 use Rattle.std.proofs.lemmas.List.{append_assoc}
@@ -11,7 +11,7 @@ use Rattle.pipe_types.specs.declared.room.Sent.{Sent}
 use Rattle.pipe_types.specs.Dispatchers.{ByPartition, goes, on_each, sends_from, sends, sends_by_place}
 use Rattle.pipe_types.specs.Rooms.{PartsDiffer}
 use Rattle.stage_buffer.specs.Waiting.{without_first}
-use Rattle.sent_laws.specs.Taken.{first_number, taken_each}
+use Rattle.sent_laws.specs.Taken.{first_number, taken_each, left_each, unsent}
 
 abbrev pub Each : {A : Type 0} → (A → Type 0) → List A → Type 0
 Each P [] = Unit {0}
@@ -163,6 +163,60 @@ taken_from part rooms earlier skipped (u ∷ units) (x ∷ names) apart parts sh
         ∙ ((λ i. record { unit = first_behind u.0 skipped u units skip refl i; sub = r.sub } ∷ taken_each part (sends_from ByPartition rooms (u.0 ∷ earlier) names) (without_behind u.0 skipped u units skip refl i))
         ∙ (ap (λ sent. record { unit = u.1; sub = r.sub } ∷ sent) there ∙ ap (λ rs. on_each u.1 rs ++ rest) (sym one))))
 
+-- What is left
+
+none_any : {A : Type 0} (f : A → Bool) (xs : List A) → filter f xs ≡ [] → list_any f xs ≡ false
+none_any f [] h = refl
+none_any f (x ∷ xs) h = by (f x) h (none_any f xs)
+  where
+    by : (b : Bool) → (if b then x ∷ filter f xs else filter f xs) ≡ [] → (filter f xs ≡ [] → list_any f xs ≡ false) → (b || list_any f xs) ≡ false
+    by true e rest = absurd (cc)
+    by false e rest = rest e
+
+one_any : {A : Type 0} (f : A → Bool) (xs : List A) (y : A) → filter f xs ≡ y ∷ [] → list_any f xs ≡ true
+one_any f [] y h = absurd (cc)
+one_any f (x ∷ xs) y h = by (f x) h (one_any f xs y)
+  where
+    by : (b : Bool) → (if b then x ∷ filter f xs else filter f xs) ≡ y ∷ [] → (filter f xs ≡ y ∷ [] → list_any f xs ≡ true) → (b || list_any f xs) ≡ true
+    by true e rest = refl
+    by false e rest = rest e
+
+pub left_from : (part : SubNo → ℕ) (rooms : List Room) (earlier : List ℕ) (skipped units names : List (ℕ × ℕ)) → Apart rooms → Each (λ (r : Room). part r.sub ≡ r.part) rooms → Shut rooms earlier skipped
+    → map (λ (x : ℕ × ℕ). x.1) names ≡ map (λ (u : ℕ × ℕ). u.0) units
+    → left_each part (sends_from ByPartition rooms earlier names) (skipped ++ units) ≡ skipped ++ unsent rooms earlier units
+left_from part rooms earlier skipped [] [] apart parts shut same = refl
+left_from part rooms earlier skipped [] (x ∷ names) apart parts shut same = absurd (cc)
+left_from part rooms earlier skipped (u ∷ units) [] apart parts shut same = absurd (cc)
+left_from part rooms earlier skipped (u ∷ units) (x ∷ names) apart parts shut same =
+    by (found part u.0 earlier rooms apart parts)
+    (λ full. left_from part rooms (u.0 ∷ earlier) (skipped ++ u ∷ []) units names apart parts (shut_one rooms (u.0 ∷ earlier) skipped u (shut_more rooms earlier u.0 skipped shut) (full_more rooms earlier u.0 u.0 full)) tails)
+    (left_from part rooms (u.0 ∷ earlier) skipped units names apart parts (shut_more rooms earlier u.0 skipped shut) tails)
+  where
+    mark : x.1 ≡ u.0
+    mark = cc
+
+    tails : map (λ (y : ℕ × ℕ). y.1) names ≡ map (λ (v : ℕ × ℕ). v.0) units
+    tails = cc
+
+    head : sends_from ByPartition rooms earlier (x ∷ names) ≡ on_each x.0 (filter (test u.0 earlier) rooms) ++ sends_from ByPartition rooms (u.0 ∷ earlier) names
+    head = ap (λ p. on_each x.0 (filter (test p earlier) rooms) ++ sends_from ByPartition rooms (p ∷ earlier) names) mark
+
+    by : (Full rooms earlier u.0 × (filter (test u.0 earlier) rooms ≡ [])) ⊎ Open part rooms earlier u.0
+        → (Full rooms earlier u.0 → left_each part (sends_from ByPartition rooms (u.0 ∷ earlier) names) ((skipped ++ u ∷ []) ++ units) ≡ (skipped ++ u ∷ []) ++ unsent rooms (u.0 ∷ earlier) units)
+        → left_each part (sends_from ByPartition rooms (u.0 ∷ earlier) names) (skipped ++ units) ≡ skipped ++ unsent rooms (u.0 ∷ earlier) units
+        → left_each part (sends_from ByPartition rooms earlier (x ∷ names)) (skipped ++ u ∷ units) ≡ skipped ++ unsent rooms earlier (u ∷ units)
+    by (inl none) over there =
+        ap (λ sent. left_each part sent (skipped ++ u ∷ units)) (head ∙ ap (λ rs. on_each x.0 rs ++ sends_from ByPartition rooms (u.0 ∷ earlier) names) none.1)
+        ∙ (ap (λ us. left_each part (sends_from ByPartition rooms (u.0 ∷ earlier) names) us) (sym (append_assoc skipped (u ∷ []) units))
+        ∙ (over none.0 ∙ (append_assoc skipped (u ∷ []) (unsent rooms (u.0 ∷ earlier) units)
+        ∙ ap (λ b. skipped ++ (if b then unsent rooms (u.0 ∷ earlier) units else u ∷ unsent rooms (u.0 ∷ earlier) units)) (sym (none_any (test u.0 earlier) rooms none.1)))))
+    by (inr (opens r one is clash)) over there =
+        let skip = none_skipped u.0 earlier rooms skipped shut clash in
+        ap (λ sent. left_each part sent (skipped ++ u ∷ units)) (head ∙ ap (λ rs. on_each x.0 rs ++ sends_from ByPartition rooms (u.0 ∷ earlier) names) one)
+        ∙ (ap (λ q. left_each part (sends_from ByPartition rooms (u.0 ∷ earlier) names) (without_first q (skipped ++ u ∷ units))) is
+        ∙ (ap (λ us. left_each part (sends_from ByPartition rooms (u.0 ∷ earlier) names) us) (without_behind u.0 skipped u units skip refl)
+        ∙ (there ∙ ap (λ b. skipped ++ (if b then unsent rooms (u.0 ∷ earlier) units else u ∷ unsent rooms (u.0 ∷ earlier) units)) (sym (one_any (test u.0 earlier) rooms r one)))))
+
 -- The law
 
 each_of : {A : Type 0} (P : A → Type 0) (xs : List A) → All P xs → Each P xs
@@ -183,4 +237,10 @@ pub taken_law : (part : SubNo → ℕ) (rooms : List Room) (units : List (ℕ ×
     → taken_each part (sends_by_place ByPartition rooms (map (λ (u : ℕ × ℕ). u.0) units)) units ≡ sends ByPartition rooms (map (λ (u : ℕ × ℕ). (u.1, u.0)) units)
 taken_law part rooms units differ parts =
     taken_from part rooms [] [] units (enumerate_from 0 (map (λ (u : ℕ × ℕ). u.0) units)) (apart_of rooms differ) (each_of (λ (r : Room). part r.sub ≡ r.part) rooms parts) tt
+    (marks_of 0 (map (λ (u : ℕ × ℕ). u.0) units))
+
+pub left_law : (part : SubNo → ℕ) (rooms : List Room) (units : List (ℕ × ℕ)) → PartsDiffer rooms → All (λ (r : Room). part r.sub ≡ r.part) rooms
+    → left_each part (sends_by_place ByPartition rooms (map (λ (u : ℕ × ℕ). u.0) units)) units ≡ unsent rooms [] units
+left_law part rooms units differ parts =
+    left_from part rooms [] [] units (enumerate_from 0 (map (λ (u : ℕ × ℕ). u.0) units)) (apart_of rooms differ) (each_of (λ (r : Room). part r.sub ≡ r.part) rooms parts) tt
     (marks_of 0 (map (λ (u : ℕ × ℕ). u.0) units))
