@@ -6,9 +6,7 @@ ghost use Rattle.pipe_model.specs.{History.{closed}, Legal.{allows, is_dry}};
 ghost use Rattle.core_state.specs.Stands.{Stands};
 ghost use Rattle.core_batches.specs.Closes.{MayClose};
 
-use crate::batches::{
-    closable_in, close_open, join_all, new_row, part_of_batch,
-};
+use crate::batches::{closable_in, close_open, join_all, new_row, part_of_batch};
 use core_state::{Core, MOST_DUE};
 use core_waits::{make_room, queue_unit};
 use pipe_types::numbers::{BatchNo, MsgNo, StageNo};

@@ -156,11 +156,7 @@ fn push_passed(queue: &mut Buffer<u32>, by_partition: bool, reply: &Reply)
     ensures rooms { free queue.old ≤ free queue.new + 1 }
 {
     if let Reply::Pass(message) = reply {
-        put(
-            queue,
-            part_of(by_partition, message.batcher),
-            message.no.0,
-        );
+        put(queue, part_of(by_partition, message.batcher), message.no.0);
     }
 }
 
@@ -186,12 +182,7 @@ pub(crate) fn queue_passed(
 }
 
 /// Puts the messages that the replies pass on behind those that wait in the stage.
-fn queue_all(
-    waiting: &mut Vec<Buffer<u32>>,
-    stage: StageNo,
-    by_partition: bool,
-    replies: &[Reply],
-)
+fn queue_all(waiting: &mut Vec<Buffer<u32>>, stage: StageNo, by_partition: bool, replies: &[Reply])
     requires within { stage.0 < length waiting.old.items }
     requires parts { IfSome (shape_at waiting.old.items stage) (λ shape. All (HasPart shape.parts by_partition) replies.now) }
     requires room { length replies.now ≤ free_at waiting.old.items stage }

@@ -98,9 +98,10 @@ found part p earlier (r ∷ rooms) apart parts = ⊎_elim here (other (found par
 
     high : r.part ≡ p → r.left ≤ seen r.part earlier → (Full (r ∷ rooms) earlier p × (filter (test p earlier) (r ∷ rooms) ≡ [])) ⊎ Open part (r ∷ rooms) earlier p
     high same few =
-        inl
-        ((λ e. (let n : seen r.part earlier ≡ seen p earlier = ap (λ q. seen q earlier) same in omega (arith, few, n)), full_none p earlier rooms (alike p r rooms same apart.0)),
-        skips (test p earlier) r rooms (goes_full p earlier r few) ∙ none_of p earlier rooms (alike p r rooms same apart.0))
+        inl (
+          (λ e. (let n : seen r.part earlier ≡ seen p earlier = ap (λ q. seen q earlier) same in omega (arith, few, n)), full_none p earlier rooms (alike p r rooms same apart.0)),
+          skips (test p earlier) r rooms (goes_full p earlier r few) ∙ none_of p earlier rooms (alike p r rooms same apart.0),
+        )
 
     here : r.part ≡ p → (Full (r ∷ rooms) earlier p × (filter (test p earlier) (r ∷ rooms) ≡ [])) ⊎ Open part (r ∷ rooms) earlier p
     here same = ⊎_elim (low same) (high same) (cases_lt (seen r.part earlier) r.left)
@@ -225,9 +226,10 @@ each_of P (x ∷ xs) h = (h 0 x (omega arith), each_of P xs (λ k d below. h (su
 
 apart_of : (rooms : List Room) → PartsDiffer rooms → Apart rooms
 apart_of [] h = tt
-apart_of (r ∷ rooms) h =
-    (each_of (λ (v : Room). v.part ≢ r.part) rooms (λ k d below e. h 0 (suc k) d (omega arith) (omega (arith, below)) (sym e)),
-    apart_of rooms (λ i j d lt below. h (suc i) (suc j) d (omega (arith, lt)) (omega (arith, below))))
+apart_of (r ∷ rooms) h = (
+  each_of (λ (v : Room). v.part ≢ r.part) rooms (λ k d below e. h 0 (suc k) d (omega arith) (omega (arith, below)) (sym e)),
+  apart_of rooms (λ i j d lt below. h (suc i) (suc j) d (omega (arith, lt)) (omega (arith, below))),
+)
 
 marks_of : (k : ℕ) (marks : List ℕ) → map (λ (x : ℕ × ℕ). x.1) (enumerate_from k marks) ≡ marks
 marks_of k [] = refl
