@@ -220,7 +220,7 @@ left_from part rooms earlier skipped (u ∷ units) (x ∷ names) apart parts shu
 
 -- The law
 
-each_of : {A : Type 0} (P : A → Type 0) (xs : List A) → All P xs → Each P xs
+pub each_of : {A : Type 0} (P : A → Type 0) (xs : List A) → All P xs → Each P xs
 each_of P [] h = tt
 each_of P (x ∷ xs) h = (h 0 x (omega arith), each_of P xs (λ k d below. h (suc k) d (omega (arith, below))))
 
@@ -231,7 +231,7 @@ apart_of (r ∷ rooms) h = (
   apart_of rooms (λ i j d lt below. h (suc i) (suc j) d (omega (arith, lt)) (omega (arith, below))),
 )
 
-marks_of : (k : ℕ) (marks : List ℕ) → map (λ (x : ℕ × ℕ). x.1) (enumerate_from k marks) ≡ marks
+pub marks_of : (k : ℕ) (marks : List ℕ) → map (λ (x : ℕ × ℕ). x.1) (enumerate_from k marks) ≡ marks
 marks_of k [] = refl
 marks_of k (m ∷ marks) = ap (λ ms. m ∷ ms) (marks_of (k + 1) marks)
 
