@@ -64,7 +64,7 @@ impl OpenBatches {
         ensures { option_copied result ≡ lookup (λ k. bytes_eq key.now k.items) self.now }
     {
         match &self.batches {
-            Some(batches) => batches.peek(key),
+            Some(batches) => find_in(batches, key),
             None => None,
         }
     }
@@ -159,6 +159,25 @@ impl OpenBatches {
             return remove_empty_in(batches);
         }
     }
+}
+
+/// Whether the two are the same.
+fn is_same(one: &[u8], other: &[u8]) -> bool
+    ensures { result ≡ bytes_eq one.now other.now }
+{
+    one == other
+}
+
+/// The messages of this key. Where it is the key of the batch that was opened first, nothing is searched.
+fn find_in<'a>(batches: &'a LruCache<Vec<u8>, Messages>, key: &[u8]) -> Option<&'a Messages>
+    ensures { option_copied result ≡ lookup (λ k. bytes_eq key.now k.items) batches.now.entries }
+{
+    if let Some((first, messages)) = batches.peek_mru() {
+        if is_same(key, first.as_slice()) {
+            return Some(messages);
+        }
+    }
+    batches.peek(key)
 }
 
 /// Puts a message into the batch of its key, where there is one.

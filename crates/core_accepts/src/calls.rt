@@ -91,7 +91,7 @@ fn parts_in(alloc: Global, spec: &StageSpec, records: &[Bytes]) -> Result<Vec<u3
     requires parts { HasParts spec.now }
     ensures { IfOk result (λ parts. parts.items ≡ map (record_part spec.now) records.now) }
 {
-    let mut parts = Vec::new(alloc);
+    let mut parts = Vec::with_capacity(alloc, records.len())?;
     for payload in records {
         parts.push(part_of(spec, payload))?;
     }

@@ -12,6 +12,9 @@ use Rattle.pipe_model.specs.Legal.{allows, happened, is_drain, drains_for, needs
 use Rattle.pipe_model.specs.Moves as model
 use Rattle.core_moves.specs.declared.moves.Move.{Move}
 use Rattle.core_moves.specs.declared.moves.Move.TheVariants as value
+use Rattle.core_moves.specs.declared.moves.Found.{Found}
+use Rattle.core_moves.specs.declared.moves.Found.TheVariants as found
+use Rattle.core_moves.specs.Closes.{closing_move}
 
 -- the value stands for this move
 abbrev pub seen_as : Move → model.Move
@@ -21,6 +24,21 @@ seen_as (value.Step step) = model.StepMove step
 seen_as (value.Job s) = model.Job s
 seen_as value.JobsOut = model.JobsOut
 seen_as value.Pause = model.Pause
+
+-- what was found is this move
+abbrev pub found_as : Found → model.Move
+found_as found.Halted = model.Halted
+found_as found.Drained = model.Drained
+found_as (found.Restart s) = model.StepMove (Restart s)
+found_as found.Halt = model.StepMove Halt
+found_as (found.Drain cause) = model.StepMove (Drain cause)
+found_as (found.Ask sub n) = model.StepMove (Ask sub n)
+found_as (found.Dispatch s) = model.StepMove (Dispatch s)
+found_as (found.Close closing) = closing_move closing
+found_as (found.Gather s m) = model.StepMove (Gather s m)
+found_as (found.Job s) = model.Job s
+found_as found.JobsOut = model.JobsOut
+found_as found.Pause = model.Pause
 
 -- the first cause for which the pipeline begins its drain of its own accord
 abbrev pub cause_by : Topology → History → Option DrainCause

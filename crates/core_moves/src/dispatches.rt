@@ -23,6 +23,7 @@ use std::collections::VecDeque;
 
 /// Whether the stage is live, and its dispatch sends something, serves a batch that nobody picks, or loses what is over the
 /// size of its buffer. Where nothing waits it does none of these.
+#[inline(always)]
 pub fn may_dispatch(core: &Core, spec: &StageSpec) -> bool
     requires stands { Stands core.now }
     requires there { spec_of core.now.topology spec.now.no ≡ Some spec.now }
@@ -35,6 +36,7 @@ pub fn may_dispatch(core: &Core, spec: &StageSpec) -> bool
 }
 
 /// The same, whatever waits.
+#[inline(never)]
 fn may_dispatch_some(core: &Core, spec: &StageSpec) -> bool
     requires stands { Stands core.now }
     requires there { spec_of core.now.topology spec.now.no ≡ Some spec.now }

@@ -66,7 +66,13 @@ pub(crate) fn is_source_done(core: &Core, spec: &StageSpec) -> bool
 fn is_to_restart(row: StageRow, role: Role, totals: Totals) -> bool
     ensures { result ≡ needs_by row role totals }
 {
-    row.dead.is_some()
-        && !totals.halted
-        && !(role == Role::Producer && (row.ended || totals.draining))
+    row.dead.is_some() && is_let_on(row.ended, role, totals.halted, totals.draining)
+}
+
+/// Whether a dead stage of that role is to go on.
+#[inline(never)]
+fn is_let_on(ended: bool, role: Role, halted: bool, draining: bool) -> bool
+    ensures { result ≡ (not halted && not (is_producer_role role && (ended || draining))) }
+{
+    !halted && !(role == Role::Producer && (ended || draining))
 }

@@ -29,6 +29,7 @@ pub(crate) fn rooms_of(core: &Core, stage: StageNo) -> Result<Vec<Room>, AllocEr
 }
 
 /// The room of the consumer's subscription on the live producer, where the consumer takes from it and is live.
+#[inline(always)]
 pub fn room(core: &Core, producer: &StageSpec, consumer: &StageSpec) -> Option<Room>
     requires holds { Holds core.now }
     requires from { spec_of core.now.topology producer.now.no ≡ Some producer.now }

@@ -76,6 +76,7 @@ fn killed(stage: StageNo, incarnation: u32, why: Why) -> (Spot, Option<Place>)
 }
 
 /// The spot of a place, and the place where it stands apart.
+#[inline(always)]
 fn split(place: Place) -> (Spot, Option<Place>)
     ensures { IsSplit place result.0 result.1 }
 {
@@ -102,6 +103,7 @@ fn other_at(others: &[Place], at: u32) -> Place
 }
 
 /// The place that the row says.
+#[inline(always)]
 fn place_of(others: &[Place], row: Standing) -> Place
     requires { IsHeld (length others.now) row }
     ensures { result ≡ seen others.now row }
@@ -144,6 +146,7 @@ fn reason_at(others: &[Place], row: Standing) -> Option<&[u8]>
 }
 
 /// Puts the place of a message into its row.
+#[inline(always)]
 fn put_spot(rows: &mut Vec<Standing>, at: usize, spot: Spot)
     requires { at < length rows.old.items }
     ensures rows { IfSome (slice_get rows.old.items at) (λ row. rows.new.items ≡ slice_set rows.old.items at (record { spot = spot; other = row.other })) }
@@ -202,6 +205,7 @@ fn put_first(rows: &mut Vec<Standing>, others: &mut Vec<Place>, at: usize, place
 }
 
 /// Puts the place of a message apart.
+#[inline(never)]
 fn put_other(rows: &mut Vec<Standing>, others: &mut Vec<Place>, at: usize, place: Place)
     requires within { at < length rows.old.items }
     requires kept { AreKept others.old.items rows.old.items }
@@ -221,6 +225,7 @@ fn put_other(rows: &mut Vec<Standing>, others: &mut Vec<Place>, at: usize, place
 }
 
 /// Notes where a message stands.
+#[inline(always)]
 fn put(rows: &mut Vec<Standing>, others: &mut Vec<Place>, at: usize, place: Place)
     requires within { at < length rows.old.items }
     requires kept { AreKept others.old.items rows.old.items }
@@ -239,6 +244,7 @@ fn put(rows: &mut Vec<Standing>, others: &mut Vec<Place>, at: usize, place: Plac
 }
 
 /// Puts a message behind the others whose place stands in its row.
+#[inline(always)]
 fn append_spot(rows: &mut Vec<Standing>, spot: Spot)
     requires room { vec_len rows.old < vec_capacity rows.old }
     ensures rows { rows.new.items ≡ rows.old.items ++ (record { spot = spot; other = 0 }) ∷ [] }
@@ -249,6 +255,7 @@ fn append_spot(rows: &mut Vec<Standing>, spot: Spot)
 }
 
 /// Puts a message behind the others whose place stands apart.
+#[inline(never)]
 fn append_other(rows: &mut Vec<Standing>, others: &mut Vec<Place>, place: Place)
     requires room { vec_len rows.old < vec_capacity rows.old }
     requires others_room { vec_len others.old < vec_capacity others.old }
@@ -268,6 +275,7 @@ fn append_other(rows: &mut Vec<Standing>, others: &mut Vec<Place>, place: Place)
 }
 
 /// Puts a message behind the others.
+#[inline(always)]
 fn append(rows: &mut Vec<Standing>, others: &mut Vec<Place>, place: Place)
     requires kept { AreKept others.old.items rows.old.items }
     requires rows { vec_len rows.old < vec_capacity rows.old }
@@ -338,6 +346,7 @@ impl PlaceTable {
     }
 
     /// The place there, from 0.
+    #[inline(always)]
     pub fn read(&self, at: usize) -> Place
         requires { at < length self.now.items }
         ensures { slice_get self.now.items at ≡ Some result }
@@ -346,6 +355,7 @@ impl PlaceTable {
     }
 
     /// The place there, from 0, and none past the end.
+    #[inline(always)]
     pub fn get(&self, at: usize) -> Option<Place>
         ensures { result ≡ slice_get self.now.items at }
     {
@@ -365,6 +375,7 @@ impl PlaceTable {
     }
 
     /// Puts another place there, from 0.
+    #[inline(always)]
     pub fn write(&mut self, at: usize, place: Place)
         requires { at < length self.old.items }
         ensures items { self.new.items ≡ slice_set self.old.items at place }
@@ -374,6 +385,7 @@ impl PlaceTable {
     }
 
     /// Puts the place behind the others, in room that was made before.
+    #[inline(always)]
     pub fn push(&mut self, place: Place)
         requires { vec_len self.old < vec_capacity self.old }
         ensures items { self.new.items ≡ self.old.items ++ place ∷ [] }

@@ -1,10 +1,11 @@
 -- What the ends of legs say is what the legs say.
-use Rattle.std.proofs.Common.{◌≡◌, ℕ, zero, suc, ◌<◌, ◌≤◌, List, [], ◌∷◌, ◌++◌, length, map, take, get_or, set, ◌+◌, subst, Bool, true, false, cond, not, ◌&&◌, refl, ap, sym, ◌∙◌, Some, None, Option, All, replicate, slice_get, arith}
+use Rattle.std.proofs.Common.{◌≡◌, ℕ, zero, suc, ◌<◌, ◌≤◌, List, [], ◌∷◌, ◌++◌, length, map, take, get_or, set, ◌+◌, subst, Bool, true, false, cond, not, ◌&&◌, refl, ap, sym, ◌∙◌, Some, None, Option, All, replicate, slice_get, arith, length-append, inl, inr, ◌⊎◌}
 use Rattle.std.specs.Prelude.{unwrap_or, is_some, option_map, nat_lt, IfSome}
 use Rattle.std.specs.List.{list_all}
-use Rattle.std.proofs.lemmas.Bool.{true≢false}
+use Rattle.std.proofs.lemmas.Bool.{true≢false, lt-ltb, le-ltb}
+use Rattle.std.proofs.lemmas.Option.{slice_get_cases}
 use Rattle.std.proofs.lemmas.Grind.{take_at_read}
-use Rattle.std.proofs.lemmas.List.Elements.{All-cons}
+use Rattle.std.proofs.lemmas.List.Elements.{All-cons, All-head}
 use Rattle.pipe_types.specs.declared.message.Outcome.{Outcome}
 use Rattle.pipe_types.specs.declared.message.Outcome.TheVariants.{Successful, Failed}
 use Rattle.pipe_types.specs.declared.message.Loss.{Loss}
@@ -16,7 +17,7 @@ use Rattle.message_ack.specs.declared.legs.LegEnd.{LegEnd}
 use Rattle.message_ack.specs.declared.legs.LegEnd.TheVariants.{Answered as AnsweredEnd, Lost as LostEnd}
 use Rattle.message_ack.specs.declared.legs.Settled.{Settled}
 use Rattle.message_ack.specs.declared.legs.Settled.TheVariants.{Outcomes, Lost as LostBatch}
-use Rattle.message_ack.specs.Ends.{Ends, IsSettledBy, with_end, end_of, ends_of, loss_of_ends, outcome_of_end, outcome_of_ends, HasOutcomes}
+use Rattle.message_ack.specs.Ends.{Ends, IsSettledBy, with_end, end_of, ends_of, loss_of_ends, outcome_of_end, outcome_of_ends, HasOutcomes, IsRoomFor}
 
 open_end : (p : LegPlace) → is_some (end_of p) ≡ not (is_leg_open p)
 open_end InInbox = refl
@@ -111,3 +112,54 @@ pub last_leg : (old : Option Ends) (sent put : Ends) (leg : ℕ) (end : LegEnd) 
 last_leg old sent put leg end r there is settled =
     subst (λ (o : Option Ends). IfSome (with_end o leg end) (λ b. (legs : List Leg) → ends_of legs ≡ b.ends → r ≡ is_settled legs)) (sym there)
     (λ legs same. sym settled ∙ (ap (λ (b : Ends). list_all is_some b.ends) is ∙ (ap (list_all is_some) (sym same) ∙ settled_ends legs)))
+
+-- A leg alone
+
+last_of_one : {X : Type 0} (front : List X) (x : X) → length (front ++ x ∷ []) ≡ 1 → front ++ x ∷ [] ≡ x ∷ []
+last_of_one [] x one = refl
+last_of_one (y ∷ front) x one =
+    let long : length (front ++ x ∷ []) ≡ length front + 1 = length-append front (x ∷ []) in
+    let none : ⊥ = omega arith in
+    absurd none
+
+by_itself : (outcome : Outcome) → Some outcome ≡ Some (cond (is_successful outcome) Successful outcome)
+by_itself Successful = refl
+by_itself (Failed why) = refl
+
+outcome_alone : (outcomes : List Outcome) (i : ℕ)
+    → slice_get outcomes i ≡ cond (nat_lt i (length outcomes)) (Some (outcome_of_ends (Some (AnsweredEnd outcomes) ∷ []) i)) None
+outcome_alone outcomes i = by ((slice_get_cases outcomes i).1)
+  where
+    by : ((x : Outcome) × (i < length outcomes) × (slice_get outcomes i ≡ Some x) × (get_or outcomes i x ≡ x)) ⊎ ((length outcomes ≤ i) × (slice_get outcomes i ≡ None))
+        → slice_get outcomes i ≡ cond (nat_lt i (length outcomes)) (Some (outcome_of_ends (Some (AnsweredEnd outcomes) ∷ []) i)) None
+    by (inl found) =
+        found.2
+        ∙ by_itself found.0
+        ∙ ap (λ (o : Option Outcome). Some (cond (is_successful (unwrap_or o Successful)) Successful (unwrap_or o Successful))) (sym found.2)
+        ∙ ap (λ (b : Bool). cond b (Some (outcome_of_ends (Some (AnsweredEnd outcomes) ∷ []) i)) None) (sym (lt-ltb i (length outcomes) found.1))
+    by (inr past) = past.1 ∙ ap (λ (b : Bool). cond b (Some (outcome_of_ends (Some (AnsweredEnd outcomes) ∷ []) i)) None) (sym (le-ltb i (length outcomes) past.0))
+
+-- the batch ends as its one leg did
+pub alone_answered : (messages : ℕ) (ends front : List (Option LegEnd)) (outcomes : List Outcome) → ends ≡ front ++ Some (AnsweredEnd outcomes) ∷ [] → length ends ≡ 1
+    → All (HasOutcomes messages) ends → (legs : List Leg) → ends_of legs ≡ ends → IsSettledBy messages legs (Outcomes outcomes)
+alone_answered messages ends front outcomes popped one has legs same =
+    let alone : ends ≡ Some (AnsweredEnd outcomes) ∷ [] = popped ∙ last_of_one front _ (ap length (sym popped) ∙ one) in
+    let long : length outcomes ≡ messages = All-head (HasOutcomes messages) (Some (AnsweredEnd outcomes)) [] (subst (All (HasOutcomes messages)) alone has) in
+    settled_outcomes messages legs (Some (AnsweredEnd outcomes) ∷ []) outcomes (same ∙ alone) refl
+    (λ i. outcome_alone outcomes i ∙ ap (λ (n : ℕ). cond (nat_lt i n) (Some (outcome_of_ends (Some (AnsweredEnd outcomes) ∷ []) i)) None) long)
+
+pub alone_lost : (messages : ℕ) (ends front : List (Option LegEnd)) (loss : Loss) → ends ≡ front ++ Some (LostEnd loss) ∷ [] → length ends ≡ 1
+    → (legs : List Leg) → ends_of legs ≡ ends → IsSettledBy messages legs (LostBatch loss)
+alone_lost messages ends front loss popped one legs same =
+    let alone : ends ≡ Some (LostEnd loss) ∷ [] = popped ∙ last_of_one front _ (ap length (sym popped) ∙ one) in
+    settled_lost messages legs (Some (LostEnd loss) ∷ []) loss (same ∙ alone) refl
+
+-- a leg that has not ended is not among those that have
+pub none_open : (ends front : List (Option LegEnd)) → ends ≡ front ++ None ∷ [] → length ends ≡ 1 → list_all is_some ends ≡ true → ⊥
+none_open ends front popped one all =
+    let alone : ends ≡ None ∷ [] = popped ∙ last_of_one front _ (ap length (sym popped) ∙ one) in
+    true≢false (sym all ∙ ap (list_all is_some) alone)
+
+-- there is room for the outcomes of several legs
+pub room_of_several : (messages room legs : ℕ) → IsRoomFor messages room legs → ¬ (legs ≡ 1) → room ≡ messages
+room_of_several messages room legs is several = is several

@@ -38,6 +38,10 @@ abbrev pub HasOutcomes : (messages : ℕ) → Option LegEnd → Type 0
 HasOutcomes messages (Some (AnsweredEnd outcomes)) = length outcomes ≡ messages
 HasOutcomes messages _ = Unit {0}
 
+-- there is room for the outcome of each message, but where there is one leg alone
+abbrev pub IsRoomFor : (messages room legs : ℕ) → Type 0
+IsRoomFor messages room legs = ¬ (legs ≡ 1) → room ≡ messages
+
 -- a batch of so many messages with one leg more, which has not ended
 abbrev pub with_leg : (messages : ℕ) → Option Ends → Ends
 with_leg messages None = record { messages = messages; ends = None ∷ [] }

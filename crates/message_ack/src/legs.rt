@@ -1,6 +1,6 @@
 //! The legs of batches that were sent.
 
-ghost use Rattle.std.specs.Prelude.{◌≡◌, ◌==◌, ◌<◌, ℕ, List, [], ◌∷◌, ◌++◌, length, slice_set, replicate, is_some, nat_lt, if◌then◌else◌, Some, None, slice_get, option_map, IsSome, IfSome, IfOk, OnOk, OnErr};
+ghost use Rattle.std.specs.Prelude.{◌≡◌, ◌==◌, ◌<◌, ℕ, List, [], ◌∷◌, ◌++◌, All, length, slice_set, replicate, is_some, nat_lt, if◌then◌else◌, true, Some, None, slice_get, option_map, IsSome, IfSome, IfOk, OnOk, OnErr};
 ghost use Rattle.std.specs.List.{list_all};
 ghost use Rattle.pipe_types.specs.Handlers.{is_successful as is_successful_outcome};
 ghost use Rattle.pipe_model.specs.Batches.{Leg, is_settled};
@@ -82,7 +82,7 @@ impl Legs {
         ensures unchanged { OnErr result ((b : ℕ) → sent_in self.new b ≡ sent_in self.old b) }
     {
         if let Some(sent) = self.batches.get_mut(&batch.0) {
-            return sent.add();
+            return sent.add(self.alloc);
         }
         let first = BatchLegs::of_one(self.alloc, messages)?;
         self.batches.insert(batch.0, first)?;
@@ -126,19 +126,21 @@ impl Legs {
 /// The ends of a batch's legs, and room for its outcomes.
 #[derive(Drop)]
 pub struct BatchLegs {
+    messages: usize,
     ends: Vec<Option<LegEnd>>,
+    // One for each message, but where there is one leg alone: the batch ends as that does.
     outcomes: Vec<Outcome>,
 }
 
 impl Model for BatchLegs {
     ghost use Rattle.std.specs.Prelude.{All, length};
-    ghost use Rattle.message_ack.specs.Ends.{Ends, HasOutcomes};
+    ghost use Rattle.message_ack.specs.Ends.{Ends, HasOutcomes, IsRoomFor};
 
     ghost Value = { Ends };
 
-    ghost view = { λ b. record { messages = length b.outcomes.items; ends = b.ends.items } };
+    ghost view = { λ b. record { messages = b.messages; ends = b.ends.items } };
 
-    ghost invariant = { λ b. All (HasOutcomes (length b.outcomes.items)) b.ends.items };
+    ghost invariant = { λ b. All (HasOutcomes b.messages) b.ends.items × IsRoomFor b.messages (length b.outcomes.items) (length b.ends.items) };
 }
 
 impl BatchLegs {
@@ -150,6 +152,7 @@ impl BatchLegs {
             ends.push(None)?;
         }
         Ok(BatchLegs {
+            messages: messages as usize,
             ends,
             outcomes: vec![in alloc; Outcome::Successful; messages as usize]?,
         })
@@ -161,15 +164,17 @@ impl BatchLegs {
         let mut ends = Vec::with_capacity(alloc, 1)?;
         ends.push(None)?;
         Ok(BatchLegs {
+            messages,
             ends,
-            outcomes: vec![in alloc; Outcome::Successful; messages]?,
+            outcomes: Vec::new(alloc),
         })
     }
 
-    fn add(&mut self) -> Result<(), AllocError>
+    fn add(&mut self, alloc: Global) -> Result<(), AllocError>
         ensures added { OnOk result (self.new ≡ record self.old { ends = self.old.ends ++ None ∷ [] }) }
         ensures unchanged { OnErr result (self.new ≡ self.old) }
     {
+        make_room(&mut self.outcomes, alloc, self.messages)?;
         self.ends.push(None)?;
         Ok(())
     }
@@ -189,14 +194,48 @@ impl BatchLegs {
     }
 
     fn into_settled(self) -> Settled
+        requires { list_all is_some self.ends ≡ true }
         ensures { (legs : List Leg) → ends_of legs ≡ self.ends → IsSettledBy self.messages legs result }
     {
-        let BatchLegs { ends, mut outcomes } = self;
+        let BatchLegs {
+            messages,
+            mut ends,
+            mut outcomes,
+        } = self;
+        if ends.len() == 1 {
+            return settled_alone(&mut ends, messages);
+        }
         if let Some(loss) = least_loss(&ends) {
             return Settled::Lost(loss);
         }
         put_outcomes(&mut outcomes, &ends);
         Settled::Outcomes(OutcomeList::from_vec(outcomes))
+    }
+}
+
+/// Makes an outcome for each message, where there is not one for each already.
+fn make_room(outcomes: &mut Vec<Outcome>, alloc: Global, messages: usize) -> Result<(), AllocError>
+    ensures room { OnOk result (length outcomes.new.items ≡ messages) }
+    ensures unchanged { OnErr result (outcomes.new.items ≡ outcomes.old.items) }
+{
+    if outcomes.len() == messages {
+        return Ok(());
+    }
+    *outcomes = vec![in alloc; Outcome::Successful; messages]?;
+    Ok(())
+}
+
+/// How a batch of so many messages ends by its one leg, which has ended.
+fn settled_alone(ends: &mut Vec<Option<LegEnd>>, messages: usize) -> Settled
+    requires alone { length ends.old.items ≡ 1 }
+    requires ended { list_all is_some ends.old.items ≡ true }
+    requires outcomes { All (HasOutcomes messages) ends.old.items }
+    ensures { (legs : List Leg) → ends_of legs ≡ ends.old.items → IsSettledBy messages legs result }
+{
+    match ends.pop() {
+        Some(Some(LegEnd::Answered(outcomes))) => Settled::Outcomes(outcomes),
+        Some(Some(LegEnd::Lost(loss))) => Settled::Lost(loss),
+        _ => unreachable!(),
     }
 }
 

@@ -4,4 +4,3 @@ pub mod HandLaws
 pub mod PutLaws
 pub mod PaceLaws
 pub mod NeedLaws
-pub mod WholeLaws

@@ -11,4 +11,3 @@ pub mod Held
 pub mod Stop
 pub mod Fetch
 pub mod LineSource
-pub mod Whole

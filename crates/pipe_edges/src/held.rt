@@ -17,6 +17,9 @@ pub const MAX_LINE: usize = 65536;
 /// How many bytes a read is offered.
 const PIECE: usize = 8192;
 
+// How many lines a cut makes room for at first.
+const FIRST_LINES: usize = 32;
+
 // The place of the first LF, where no LF stands in the bytes that were searched before.
 fn line_end(bytes: &[u8], searched: usize) -> Option<usize>
     requires { IsSearched bytes.now searched }
@@ -43,7 +46,7 @@ fn cut(alloc: Global, bytes: &[u8], searched: usize, max: u32) -> Result<CutLine
     ensures lines { IfOk result (λ c. CutsLines bytes.now c.records.items c.used c.searched) }
     ensures all { IfOk result (λ c. CutsAll max c.records.items (drop c.used bytes.now)) }
 {
-    let mut records = Vec::new(alloc);
+    let mut records = Vec::with_capacity(alloc, FIRST_LINES.min(max as usize))?;
     let mut used = 0;
     let mut searched = searched;
     for _ in 0..max {

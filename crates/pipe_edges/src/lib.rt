@@ -1,8 +1,8 @@
 //! The outside of a pipeline: where bytes come from and go to, the clock, what is opened by name, and lines.
 //!
 //! A `LineSource` hands out the lines of any `ByteSource` in order, in time linear in the bytes, and names why it
-//! stops; `read_all` reads a source to its end; `put_all` writes a text to any `ByteSink` and says how many bytes went out. Their clauses count faults
-//! and waits of every source and sink, and speak of the bytes of those that tell them.
+//! stops; `put_all` writes a text to any `ByteSink` and says how many bytes went out. Their clauses count faults and
+//! waits of every source and sink, and speak of the bytes of those that tell them.
 #![tactic(auto)]
 
 mod clock;
@@ -12,7 +12,6 @@ mod lines;
 mod reading;
 mod sink;
 mod source;
-mod whole;
 
 pub use clock::Clock;
 pub use edges::{EdgeEnd, EdgeKind, Edges, MAX_FILE_BYTES};
@@ -20,4 +19,3 @@ pub use lines::LineSource;
 pub use reading::{Fetched, LineEnd};
 pub use sink::{ByteSink, PutEnd, WriteEnd, put_all};
 pub use source::{ByteSource, ReadEnd};
-pub use whole::{WholeRead, read_all};

@@ -129,6 +129,7 @@ fn half(count: usize) -> Option<u32>
 }
 
 /// The entry of a step that moves into the store.
+#[inline(never)]
 fn pack_whole(store: &mut Store, step: Step) -> Entry
     requires room { 1 ≤ spare_of store.old }
     ensures step { step_of store.new result ≡ step }
@@ -140,6 +141,7 @@ fn pack_whole(store: &mut Store, step: Step) -> Entry
 }
 
 /// The entry of an Accept.
+#[inline(never)]
 fn pack_accept(store: &mut Store, stage: StageNo, records: BytesList) -> Entry
     requires room { 1 ≤ spare_of store.old }
     ensures step { step_of store.new result ≡ StepOf.Accept stage records }
@@ -158,6 +160,7 @@ fn pack_accept(store: &mut Store, stage: StageNo, records: BytesList) -> Entry
 }
 
 /// The entry of a Done.
+#[inline(never)]
 fn pack_done(store: &mut Store, stage: StageNo, replies: ReplyList) -> Entry
     requires room { 1 ≤ spare_of store.old }
     ensures step { step_of store.new result ≡ StepOf.Done stage replies }
@@ -176,6 +179,7 @@ fn pack_done(store: &mut Store, stage: StageNo, replies: ReplyList) -> Entry
 }
 
 /// The entry of a ChildEnd.
+#[inline(never)]
 fn pack_child_end(store: &mut Store, stage: StageNo, slot: u16, reply: Reply) -> Entry
     requires room { 1 ≤ spare_of store.old }
     ensures step { step_of store.new result ≡ StepOf.ChildEnd stage slot reply }
@@ -194,6 +198,7 @@ fn pack_child_end(store: &mut Store, stage: StageNo, slot: u16, reply: Reply) ->
 }
 
 /// The entry of a Wrote.
+#[inline(never)]
 fn pack_wrote(store: &mut Store, stage: StageNo, bytes: u64, end: BatchEnd) -> Entry
     requires room { 1 ≤ spare_of store.old }
     ensures step { step_of store.new result ≡ StepOf.Wrote stage bytes end }
@@ -222,6 +227,7 @@ fn pack_wrote(store: &mut Store, stage: StageNo, bytes: u64, end: BatchEnd) -> E
 }
 
 /// The entry of a step, whose list moves into the store.
+#[inline(always)]
 pub(crate) fn pack(store: &mut Store, step: Step) -> Entry
     requires room { 1 ≤ spare_of store.old }
     ensures step { step_of store.new result ≡ step }

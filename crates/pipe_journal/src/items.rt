@@ -70,6 +70,7 @@ impl<'a> ReplyView<'a> {
 }
 
 /// How many of so many from a place on there are, where there are `total`.
+#[inline(always)]
 fn among(total: usize, first: u32, count: u32) -> usize
     ensures { result ≡ min count (total - first) }
 {
@@ -84,6 +85,7 @@ fn among(total: usize, first: u32, count: u32) -> usize
 
 impl<'a> Records<'a> {
     /// How many they are.
+    #[inline(always)]
     pub fn len(self) -> usize
         ensures { result ≡ length (records_seen self.entry) }
     {
@@ -94,6 +96,7 @@ impl<'a> Records<'a> {
     }
 
     /// The record at that place from 0.
+    #[inline(always)]
     pub fn item(self, at: usize) -> &'a [u8]
         requires { at < length (records_seen self) }
         ensures { slice_get (records_seen self.entry) at ≡ Some result.now }
@@ -105,6 +108,7 @@ impl<'a> Records<'a> {
     }
 
     /// The record at that place from 0, where there is one.
+    #[inline(always)]
     pub fn get(self, at: usize) -> Option<&'a [u8]>
         ensures { option_copied result ≡ slice_get (records_seen self.entry) at }
     {
@@ -118,6 +122,7 @@ impl<'a> Records<'a> {
 
 impl<'a> Replies<'a> {
     /// How many they are.
+    #[inline(always)]
     pub fn len(self) -> usize
         ensures { result ≡ length (replies_seen self.entry) }
     {
@@ -129,6 +134,7 @@ impl<'a> Replies<'a> {
     }
 
     /// The reply at that place from 0.
+    #[inline(always)]
     pub fn item(self, at: usize) -> ReplyView<'a>
         requires { at < length (replies_seen self) }
         ensures { slice_get (replies_seen self.entry) at ≡ Some (reply_seen result) }
@@ -141,6 +147,7 @@ impl<'a> Replies<'a> {
     }
 
     /// The reply at that place from 0, where there is one.
+    #[inline(always)]
     pub fn get(self, at: usize) -> Option<ReplyView<'a>>
         ensures { option_map reply_seen result ≡ slice_get (replies_seen self.entry) at }
     {

@@ -1,14 +1,14 @@
 //! The list of steps.
 
-ghost use Rattle.std.specs.Prelude.{◌≡◌, ◌+◌, ◌<◌, ◌≤◌, ◌==◌, [], ◌∷◌, ◌++◌, length, Some, option_copied, option_map, IsOk, IfOk, OnOk, OnErr, IfErr};
-ghost use Rattle.pipe_journal.specs.{Items.{reply_seen}, Readers.{step_at, payload_at, reply_at}, Views.{step_seen}};
+ghost use Rattle.std.specs.Prelude.{◌≡◌, ℕ, ◌+◌, ◌<◌, ◌≤◌, ◌==◌, [], ◌∷◌, ◌++◌, length, slice_get, Some, option_copied, option_map, IsOk, IfOk, OnOk, OnErr, IfErr};
+ghost use Rattle.pipe_journal.specs.{Items.{reply_seen, records_seen, replies_seen}, Readers.{step_at, payload_at, reply_at}, Views.{step_seen}};
 
 use crate::acked::AckRow;
 use crate::entry::{Entry, pack};
-use crate::items::ReplyView;
+use crate::items::{Records, Replies, ReplyView};
 use crate::kept::Kept;
 use crate::store::Store;
-use crate::view::{StepView, view_entry};
+use crate::view::{StepView, records_in, replies_in, view_entry};
 use pipe_types::step::Step;
 use slab::Slab;
 use std::alloc::{AllocError, Global};
@@ -87,6 +87,7 @@ impl Journal {
     }
 
     /// Writes the step into room that was made before.
+    #[inline(always)]
     pub fn push_spare(&mut self, step: Step)
         requires { 1 ≤ self.old.spare }
         ensures written { self.new.steps ≡ step ∷ self.old.steps }
@@ -158,25 +159,45 @@ impl Journal {
         view_entry(&self.store, self.entries[at as usize])
     }
 
+    /// The records of the step at that place from 0. No view of the step is made.
+    #[inline(always)]
+    fn records(&self, at: u64) -> Records<'_>
+        requires { at < length self.now.steps }
+        ensures { (item : ℕ) → payload_at self.now.steps at item ≡ slice_get (records_seen result) item }
+    {
+        records_in(&self.store, self.entries[at as usize])
+    }
+
+    /// The replies of the step at that place from 0. No view of the step is made.
+    #[inline(always)]
+    fn replies(&self, at: u64) -> Replies<'_>
+        requires { at < length self.now.steps }
+        ensures { (item : ℕ) → reply_at self.now.steps at item ≡ slice_get (replies_seen result) item }
+    {
+        replies_in(&self.store, self.entries[at as usize])
+    }
+
     /// The record at place `item` of the Accept or of the late answer at place `at`, both from 0, and none where no such
     /// record is.
+    #[inline(always)]
     pub fn payload_at(&self, at: u64, item: u32) -> Option<&[u8]>
         ensures { option_copied result ≡ payload_at self.now.steps at item }
     {
         if self.len() <= at {
             return None;
         }
-        self.view(at).records().get(item as usize)
+        self.records(at).get(item as usize)
     }
 
     /// The reply at place `item` of the Done at place `at`, both from 0, or of the ChildEnd there with `item` 0, and none
     /// where no such reply is.
+    #[inline(always)]
     pub fn reply_at(&self, at: u64, item: u32) -> Option<ReplyView<'_>>
         ensures { option_map reply_seen result ≡ reply_at self.now.steps at item }
     {
         if self.len() <= at {
             return None;
         }
-        self.view(at).replies().get(item as usize)
+        self.replies(at).get(item as usize)
     }
 }

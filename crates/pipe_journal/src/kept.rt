@@ -239,6 +239,7 @@ fn keep_reply(
 }
 
 /// The text at that place.
+#[inline(always)]
 fn text_of(texts: &Shelf, at: usize) -> &[u8]
     requires { at < length texts.now }
     ensures { result.now ≡ text_at texts.now at }
@@ -255,6 +256,7 @@ fn reason_of(reasons: &[Reason], at: usize) -> &Reason
 }
 
 /// A kept reply, its texts lent.
+#[inline(always)]
 fn view_kept<'a>(
     records: &'a Shelf,
     words: &'a Shelf,
@@ -321,6 +323,7 @@ impl Kept {
     }
 
     /// The record at that place from 0.
+    #[inline(always)]
     pub(crate) fn record(&self, at: usize) -> &[u8]
         requires { at < length self.now.records }
         ensures { slice_get self.now.records at ≡ Some result.now }
@@ -336,6 +339,7 @@ impl Kept {
     }
 
     /// The reply at that place from 0.
+    #[inline(always)]
     pub(crate) fn reply(&self, at: usize) -> ReplyView<'_>
         requires { at < length self.now.replies }
         ensures { slice_get self.now.replies at ≡ Some (reply_seen result) }

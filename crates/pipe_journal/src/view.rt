@@ -346,6 +346,7 @@ impl<'a> StepView<'a> {
 }
 
 /// The step of an entry, what it names lent by the store.
+#[inline(always)]
 pub(crate) fn view_entry(store: &Store, entry: Entry) -> StepView<'_>
     requires { IsHeld store.now entry }
     ensures { step_seen result ≡ step_of store.now entry }
@@ -410,5 +411,32 @@ pub(crate) fn view_entry(store: &Store, entry: Entry) -> StepView<'_>
         Entry::Halt => StepView::Halt,
         Entry::Refuse { line } => StepView::Refuse { line },
         Entry::Whole(key) => StepView::of(store.step(key)),
+    }
+}
+
+/// The records that the step of an entry brings in, lent by the store. No view of the step is made.
+#[inline(always)]
+pub(crate) fn records_in(store: &Store, entry: Entry) -> Records<'_>
+    requires { IsHeld store.now entry }
+    ensures { records_seen result ≡ records_of (step_of store.now entry) }
+{
+    match entry {
+        Entry::Accept { first, count, .. } => Records::Packed(&store.kept, first, count),
+        Entry::Whole(key) => StepView::of(store.step(key)).records(),
+        _ => Records::Listed(&[]),
+    }
+}
+
+/// The replies of the step of an entry, lent by the store. No view of the step is made.
+#[inline(always)]
+pub(crate) fn replies_in(store: &Store, entry: Entry) -> Replies<'_>
+    requires { IsHeld store.now entry }
+    ensures { replies_seen result ≡ replies_of (step_of store.now entry) }
+{
+    match entry {
+        Entry::Done { first, count, .. } => Replies::Packed(&store.kept, first, count),
+        Entry::ChildEnd { reply, .. } => Replies::One(store.reply(reply)),
+        Entry::Whole(key) => StepView::of(store.step(key)).replies(),
+        _ => Replies::Listed(&[]),
     }
 }

@@ -1,6 +1,6 @@
 use Rattle.std.proofs.Common.{◌∙◌, sym}
 use Rattle.core_moves.proofs.Chain.{on_is, halted_out, halted_in}
-use Rattle.core_moves.proofs.moves.first_move.Goals as goal
+use Rattle.core_moves.proofs.moves.find_move.Goals as goal
 
 pub move_on-requires : goal.move_on-requires
 move_on-requires c = record { stands = c.requires.stands; going = sym c.is_halted.ensures ∙ c.if-not-is_halted.true }
