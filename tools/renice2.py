@@ -18,7 +18,8 @@ while True:
                 if not cwd.startswith('/work/'):
                     for e in open(f'/proc/{q}/environ').read().split('\0'):
                         if e.startswith('PWD=/work/'): cwd=e[4:]
-                if cwd.startswith('/work/'): n=want.get((cwd+'/').split('/')[2])
+                if cwd.startswith('/tmp/a1') or cwd.startswith('/tmp/n1') or cwd.startswith('/tmp/f1') or cwd.startswith('/tmp/g1'): n=15
+                elif cwd.startswith('/work/'): n=want.get((cwd+'/').split('/')[2])
                 q=ppid(q); hops+=1
             if n is None: continue
             m=open(f'/proc/{p}/cmdline').read().split('\0')
