@@ -47,7 +47,7 @@ use Rattle.stage_bodies.specs.declared.job.Outcome.TheVariants as came
 use Rattle.body_laws.specs.Ready.{There, IsArmed, IsBodyAt}
 use Rattle.body_laws.proofs.Steps.{processors_alone, writers_alone, is_present}
 use Rattle.body_laws.proofs.Jobs.{of_feed, fit_of, source_there, chunk_armed, batch_armed, chunk_for, child_for, batch_for}
-use Rattle.body_laws.proofs.Contents.{Handles, processor_handles, supervisor_handles, messages_fit}
+use Rattle.wait_laws.proofs.Contents.{Handles, processor_handles, supervisor_handles, messages_fit}
 use Rattle.body_laws.proofs.Laws.{no_control, stage_low}
 
 allowed_by : (halted late : Bool) (o : Option (Step → Bool)) (step : Step) (may : Bool) → halted ≡ false → o ≡ None → may ≡ true → ((not halted || late) && passes o step may) ≡ true

@@ -5,7 +5,6 @@ pub mod Rises
 pub mod Answering
 pub mod Jobs
 pub mod Laws
-pub mod Contents
 pub mod Starts
 pub mod Allowed
 pub mod Lating

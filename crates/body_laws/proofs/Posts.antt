@@ -19,6 +19,7 @@ use Rattle.pipe_model.specs.Legal.{is_legal, allows, has_role, is_supervisor_rol
 use Rattle.pipe_laws.proofs.Tests.{clash, and_left, and_right, same_stage-true, same_stage-self}
 use Rattle.pipe_laws.proofs.Allowed.{legal_before, legal_step, take_facts, fetch_role, child_facts}
 use Rattle.queue_laws.proofs.Children.{new_below}
+pub use Rattle.wait_laws.proofs.Contents.{some_role}
 use Rattle.stage_laws.proofs.FewSlots.{children}
 use Rattle.stage_laws.proofs.Numbering.{numbered_topology}
 use Rattle.stage_bodies.specs.Posts.{place_at}
@@ -61,15 +62,6 @@ only_slot topology s slot h calm = by_spec (spec_of topology s) refl
     by_spec (Some spec) e =
         let same : has_role topology s is_supervisor_role ≡ is_supervisor_role spec.role = rw e refl in
         slot_zero spec.role spec.max slot (sym (ap (λ o. has_post_in o slot) e) ∙ h) (sym same ∙ calm)
-
-pub some_role : (topology : Topology) (s : StageNo) (test : Role → Bool) → has_role topology s test ≡ true → (spec : StageSpec) × (spec_of topology s ≡ Some spec) × (test spec.role ≡ true)
-some_role topology s test h = by_spec (spec_of topology s) refl
-  where
-    by_spec : (o : Option StageSpec) → spec_of topology s ≡ o → (spec : StageSpec) × (spec_of topology s ≡ Some spec) × (test spec.role ≡ true)
-    by_spec None e = let none : has_role topology s test ≡ false = rw e refl in clash (has_role topology s test) h none
-    by_spec (Some spec) e =
-        let same : has_role topology s test ≡ test spec.role = rw e refl in
-        (spec, e, sym same ∙ h)
 
 -- the first slot of a stage of this role is a post
 pub first_post : (topology : Topology) (s : StageNo) (test : Role → Bool) → ((r : Role) (max : ℕ) → test r ≡ true → has_slot r max 0 ≡ true) → has_role topology s test ≡ true → has_post topology (post s 0) ≡ true

@@ -14,13 +14,13 @@ use Rattle.pipe_model.specs.Legal.{fetches_out, is_producer_role, pull_bound, bo
 use Rattle.stage_subs.specs.Subs.{row_at, open_in}
 use Rattle.stage_laws.specs.Numbered.{IsNumberedTopology}
 use Rattle.stage_laws.proofs.Numbering.{numbered_topology}
-use Rattle.core_tables.specs.Tables.{queue_at}
 use Rattle.core_tables.specs.declared.rows.Totals.{Totals}
 use Rattle.core_tables.specs.declared.rows.StageRow.{StageRow}
 use Rattle.core_tables.specs.declared.rows.PostRow.{PostRow}
 use Rattle.core_tables.specs.Rows.{post_at}
 use Rattle.core_laws.specs.Columns.{stage_row}
 use Rattle.core_laws.proofs.Bounds.{sum_alike, fetch_out_is, out_of, fetches_are, open_to, room_is}
+use Rattle.core_waits.specs.Waits.{units_at}
 use Rattle.core_state.specs.declared.state.Core.{Core}
 use Rattle.core_state.specs.Stands.{Holds}
 use Rattle.core_accepts.specs.Rooms.{open_between, may_bring, brings, pulled}
@@ -69,7 +69,7 @@ room_seen core p x from =
     ∙ sym (room_is core.topology core.journal.steps p.no)
 
 -- how many units wait in the stage
-pub waiting_seen : (core : Core) (s : StageNo) → Holds core → length (queue_at core.waiting.items s) ≡ length (waiting core.topology core.journal.steps s)
+pub waiting_seen : (core : Core) (s : StageNo) → Holds core → length (units_at core.waiting.items s) ≡ length (waiting core.topology core.journal.steps s)
 waiting_seen core s x =
     ap length (x.fields.waiting s)
     ∙ length-map (waiting core.topology core.journal.steps s) _

@@ -3,7 +3,6 @@ use Rattle.std.proofs.Common.{◌≡◌, ℕ, ◌*◌, ◌≤◌, List, length, 
 use Rattle.std.specs.Prelude.{◌&&◌, ◌||◌, ◌==◌, nat_le, is_some, slice_get}
 use Rattle.std.proofs.lemmas.Bool.{eqb-true, leb-true}
 use Rattle.std.specs.declared.alloc.Global.{Global}
-use Rattle.std.specs.declared.collections.VecDeque.{VecDeque}
 use Rattle.pipe_types.specs.declared.numbers.StageNo.{StageNo}
 use Rattle.pipe_types.specs.declared.topology.Topology.{Topology}
 use Rattle.pipe_types.specs.declared.topology.StageSpec.{StageSpec}
@@ -21,7 +20,8 @@ use Rattle.pipe_laws.proofs.Allowed.{accept_role}
 use Rattle.pipe_laws.proofs.Tests.{and_left, and_right, clash}
 use Rattle.queue_laws.proofs.Sounds.{sound_fields}
 use Rattle.stage_laws.proofs.Numbering.{numbered_topology}
-use Rattle.core_tables.specs.Tables.{spare_in, spare_at}
+use Rattle.core_waits.specs.Waits.{free_at, free_in, free}
+use Rattle.stage_buffer.specs.Waiting.{Waiting}
 use Rattle.core_laws.specs.Columns.{is_by_partition}
 use Rattle.core_laws.specs.Laws.{AcceptLaws}
 use Rattle.core_laws.proofs.Accepting.{bytes_few, accept_small}
@@ -85,5 +85,5 @@ pub there : (topology : Topology) (s : StageNo) → has_role topology s is_produ
 there topology s h none = let wrong : has_role topology s is_producer_role ≡ false = rw (sym none) refl in clash (has_role topology s is_producer_role) h wrong
 
 -- the room of the stage's queue
-pub queue_room : (queues : List (VecDeque (ℕ × ℕ) Global)) (s : StageNo) (q : VecDeque (ℕ × ℕ) Global) → slice_get queues s.0 ≡ Some q → spare_at queues s ≡ spare_in (Some q)
-queue_room queues s q here = ap spare_in here
+pub queue_room : (queues : List (Waiting ℕ)) (s : StageNo) (q : Waiting ℕ) → slice_get queues s.0 ≡ Some q → free_at queues s ≡ free q
+queue_room queues s q here = ap free_in here

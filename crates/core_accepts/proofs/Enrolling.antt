@@ -3,7 +3,6 @@ use Rattle.std.proofs.Common.{◌≡◌, ◌≢◌, ℕ, suc, ◌+◌, ◌≤◌
 use Rattle.std.specs.Prelude.{slice_get, option_map, if◌then◌else◌, ◌==◌, ◌⊎◌}
 use Rattle.std.specs.declared.alloc.Global.{Global}
 use Rattle.std.specs.declared.vec.Vec.{Vec}
-use Rattle.std.specs.declared.collections.VecDeque.{VecDeque}
 use Rattle.std.proofs.lemmas.List.{length-set, length-append, length-replicate, map-append}
 use Rattle.pipe_types.specs.declared.numbers.StageNo.{StageNo}
 use Rattle.pipe_types.specs.declared.topology.Topology.{Topology}
@@ -29,6 +28,8 @@ use Rattle.core_laws.specs.Columns.{post_row, part_of, waiting_parts, open_batch
 use Rattle.core_laws.specs.Enrolled.{queued}
 use Rattle.core_laws.specs.Laws.{AcceptLaws}
 use Rattle.core_laws.proofs.Accepting.{parts_old, parts_new, opens_kept, unsettled}
+use Rattle.core_waits.specs.Waits.{units_at}
+use Rattle.stage_buffer.specs.Waiting.{Waiting as Waits}
 use Rattle.core_state.specs.declared.state.Core.{Core}
 use Rattle.core_state.specs.Stands.{Fields}
 use Rattle.core_state.proofs.Ending.{post_home}
@@ -50,9 +51,9 @@ more : {A : Type 0} (xs ys zs : List A) (n m : ℕ) → zs ≡ xs ++ ys → leng
 more xs ys zs n m e f g = ap length e ∙ (length-append xs ys ∙ (ap (λ k. k + length ys) f ∙ ap (λ k. n + k) g))
 
 -- the tables with the new rows
-pub record Enrolled (core : Core) (before : History) (s : StageNo) (spec : StageSpec) (records : List (List ℕ)) (new : Core) (q : VecDeque (ℕ × ℕ) Global) : Type 0 where
+pub record Enrolled (core : Core) (before : History) (s : StageNo) (spec : StageSpec) (records : List (List ℕ)) (new : Core) (q : Waits ℕ) : Type 0 where
   pub queues : new.waiting.items ≡ set core.waiting.items s.0 q
-  pub queue : q.items ≡ queue_at core.waiting.items s ++ queued spec (accepted before + 1) records
+  pub queue : q.items ≡ units_at core.waiting.items s ++ queued spec (accepted before + 1) records
   pub places : new.places.items ≡ core.places.items ++ replicate (length records) (Waiting s)
   pub settled : new.settled.items ≡ core.settled.items ++ replicate (length records) 0
   pub producers : new.producers.items ≡ core.producers.items ++ replicate (length records) s
@@ -62,15 +63,15 @@ pub record Enrolled (core : Core) (before : History) (s : StageNo) (spec : Stage
   pub totals : new.totals ≡ record core.totals { accepted = core.totals.accepted + length records; bytes = core.totals.bytes + bytes_in records; quiet = 0 }
 
 pub enrolled_fields : (core : Core) (topology : Topology) (before : History) (s : StageNo) (spec : StageSpec) (records : List (List ℕ)) (j : Recorded)
-    (queues : Vec (VecDeque (ℕ × ℕ) Global) Global) (places : Vec Place Global) (settled : Vec ℕ Global) (producers : Vec StageNo Global) (contents : Vec ContentRow Global)
-    (posts : Vec PostRow Global) (totals : Totals) (q : VecDeque (ℕ × ℕ) Global)
+    (queues : Vec (Waits ℕ) Global) (places : Vec Place Global) (settled : Vec ℕ Global) (producers : Vec StageNo Global) (contents : Vec ContentRow Global)
+    (posts : Vec PostRow Global) (totals : Totals) (q : Waits ℕ)
     → Fields core topology before → IsSound topology → is_legal topology before ≡ true → AcceptLaws topology before s records → s.0 ≤ length topology.stages
     → spec_of topology s ≡ Some spec → spec.role ≡ Producer
     → Enrolled core before s spec records (record core { journal = j; posts = posts; waiting = queues; places = places; settled = settled; producers = producers; contents = contents; totals = totals }) q
     → Fields (record core { journal = j; posts = posts; waiting = queues; places = places; settled = settled; producers = producers; contents = contents; totals = totals }) topology (Accept s records ∷ before)
 enrolled_fields core topology before s spec records j queues places settled producers contents posts totals q x sound legal law within found role e = fields_of says
   where
-    waits : (t : StageNo) → (((s.0 == t.0) ≡ true) × (s.0 ≡ t.0)) ⊎ (((s.0 == t.0) ≡ false) × (s.0 ≢ t.0)) → queue_at queues.items t ≡ waiting_parts topology (Accept s records ∷ before) t
+    waits : (t : StageNo) → (((s.0 == t.0) ≡ true) × (s.0 ≡ t.0)) ⊎ (((s.0 == t.0) ≡ false) × (s.0 ≢ t.0)) → units_at queues.items t ≡ waiting_parts topology (Accept s records ∷ before) t
     waits t (inl same) =
         let one : s ≡ t = ap (λ n. record { 0 = n }) same.1 in
         ap (λ qs. queue_at qs t) e.queues

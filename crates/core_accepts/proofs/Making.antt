@@ -2,7 +2,6 @@
 use Rattle.std.proofs.Common.{◌≡◌, ◌≢◌, ℕ, ◌+◌, ◌<◌, ◌≤◌, List, ◌∷◌, length, set, true, false, refl, ap, sym, ◌∙◌, arith, Some, inl, inr}
 use Rattle.std.specs.Prelude.{◌==◌, ◌⊎◌, ◌&&◌, nat_lt, slice_get, OnOk}
 use Rattle.std.specs.declared.alloc.Global.{Global}
-use Rattle.std.specs.declared.collections.VecDeque.{VecDeque}
 use Rattle.std.proofs.lemmas.Bool.{eqb-true}
 use Rattle.std.specs.declared.result.Result.{Result}
 use Rattle.std.specs.declared.result.Result.TheVariants.{Ok, Err}
@@ -27,11 +26,13 @@ use Rattle.pipe_laws.proofs.Allowed.{unowed}
 use Rattle.pipe_laws.proofs.Tests.{and_left, and_right, both, clash, same_stage-self}
 use Rattle.queue_laws.proofs.Sounds.{sound_fields}
 use Rattle.stage_laws.proofs.Records.{fetch_booked}
-use Rattle.core_tables.specs.Tables.{list_at, room_at, spare_at, spare_in}
+use Rattle.core_tables.specs.Tables.{list_at, room_at}
 use Rattle.core_tables.proofs.Tables.{same_or_other, get-set_other}
 use Rattle.core_laws.proofs.Due.{answer_due}
 use Rattle.core_laws.proofs.TakenBatches.{no_fetch}
 use Rattle.core_laws.specs.Due.{due_steps, booked, taken_size}
+use Rattle.core_waits.specs.Waits.{free_at, free_in, free}
+use Rattle.stage_buffer.specs.Waiting.{Waiting}
 use Rattle.core_state.specs.declared.state.Core.{Core}
 use Rattle.core_state.specs.Room.{HaveRows}
 use Rattle.core_state.specs.Stands.{Holds, Stands}
@@ -85,8 +86,8 @@ accept_rows core s records x allowed =
     fewer_rows after (accepted core.journal.steps + length records) core.places core.settled core.producers core.contents (rows_kept core step x allowed (λ t n e. cc)) (omega (arith, more))
 
 -- where the queue and the journal have more room, the core stands as it did
-pub queue_stands : (core : Core) (s : StageNo) (old q : VecDeque (ℕ × ℕ) Global) (j : Recorded) → Stands core → s.0 < length core.waiting.items → slice_get core.waiting.items s.0 ≡ Some old
-    → q.items ≡ old.items → spare_in (Some old) ≤ spare_in (Some q) → j.steps ≡ core.journal.steps → core.journal.spare ≤ j.spare → j.acked ≡ core.journal.acked
+pub queue_stands : (core : Core) (s : StageNo) (old q : Waiting ℕ) (j : Recorded) → Stands core → s.0 < length core.waiting.items → slice_get core.waiting.items s.0 ≡ Some old
+    → q.items ≡ old.items → free old ≤ free q → j.steps ≡ core.journal.steps → core.journal.spare ≤ j.spare → j.acked ≡ core.journal.acked
     → Stands (record core { journal = j; waiting = with_item core.waiting s.0 q })
 queue_stands core s old q j x within was same more steps spare acked =
     roomy core core.places core.settled core.producers core.contents (with_item core.waiting s.0 q) j x
@@ -114,14 +115,14 @@ no_batchers_of topology s spec sound found role =
     ap has_batchers_in found ∙ ap (nat_lt 0) none
 
 -- so its queue is no part of the room, and the others are as they were
-pub accept_queues : (core : Core) (s : StageNo) (spec : StageSpec) (q : VecDeque (ℕ × ℕ) Global) (t : StageNo) → Holds core → spec_of core.topology s ≡ Some spec → spec.role ≡ Producer
-    → has_batchers_in (spec_of core.topology t) ≡ true → length (list_at core.chunks.items t) ≤ spare_at (set core.waiting.items s.0 q) t
+pub accept_queues : (core : Core) (s : StageNo) (spec : StageSpec) (q : Waiting ℕ) (t : StageNo) → Holds core → spec_of core.topology s ≡ Some spec → spec.role ≡ Producer
+    → has_batchers_in (spec_of core.topology t) ≡ true → length (list_at core.chunks.items t) ≤ free_at (set core.waiting.items s.0 q) t
 accept_queues core s spec q t x found role feeds = by (same_or_other s.0 t.0)
   where
-    by : (((s.0 == t.0) ≡ true) × (s.0 ≡ t.0)) ⊎ (((s.0 == t.0) ≡ false) × (s.0 ≢ t.0)) → length (list_at core.chunks.items t) ≤ spare_at (set core.waiting.items s.0 q) t
+    by : (((s.0 == t.0) ≡ true) × (s.0 ≡ t.0)) ⊎ (((s.0 == t.0) ≡ false) × (s.0 ≢ t.0)) → length (list_at core.chunks.items t) ≤ free_at (set core.waiting.items s.0 q) t
     by (inl here) =
         let one : s ≡ t = ap (λ n. record { 0 = n }) here.1 in
         clash (has_batchers_in (spec_of core.topology t)) feeds (ap (λ u. has_batchers_in (spec_of core.topology u)) (sym one) ∙ no_batchers_of core.topology s spec x.sound found role)
     by (inr other) =
-        let same : spare_at (set core.waiting.items s.0 q) t ≡ spare_at core.waiting.items t = ap spare_in (get-set_other core.waiting.items s.0 t.0 q (λ e. other.1 (sym e))) in
+        let same : free_at (set core.waiting.items s.0 q) t ≡ free_at core.waiting.items t = ap free_in (get-set_other core.waiting.items s.0 t.0 q (λ e. other.1 (sym e))) in
         omega (arith, same, x.room.queues t feeds)

@@ -2,8 +2,8 @@
 
 ghost use Rattle.std.specs.{Prelude.{◌≡◌, ◌∷◌, ◌++◌, ◌+◌, ◌<◌, ◌≤◌, ◌^◌, length, OnOk, IsTrue}, VecDeque.{deque_len, deque_capacity}};
 ghost use Rattle.pipe_model.specs.{History.{bytes_in}, Legal.{allows}};
-ghost use Rattle.core_tables.specs.Tables.{spare_at};
 ghost use Rattle.core_laws.specs.Enrolled.{record_part, queued};
+ghost use Rattle.core_waits.specs.Waits.{free_at};
 ghost use Rattle.core_state.specs.Stands.{Holds, Stands};
 ghost use Rattle.core_accepts.specs.Records.{HasParts};
 
@@ -16,15 +16,15 @@ use pipe_types::fields::field;
 use pipe_types::numbers::StageNo;
 use pipe_types::step::Step;
 use pipe_types::topology::{Dispatch, StageSpec};
+use stage_buffer::Buffer;
 use std::alloc::AllocError;
-use std::collections::VecDeque;
 
 /// Makes room for so many records more that wait in the producer, for the step and for a dispatch behind it. The journal is as
 /// before.
 pub fn make_room(core: &mut Core, stage: StageNo, count: u32) -> Result<(), AllocError>
     requires stands { Stands core.old }
     requires known { stage.0 ≤ length core.old.topology.stages }
-    ensures room { OnOk result (count ≤ spare_at core.new.waiting.items stage) }
+    ensures room { OnOk result (count ≤ free_at core.new.waiting.items stage) }
     ensures steps { OnOk result (1090 ≤ core.new.journal.spare) }
     ensures unchanged { core.new.journal.steps ≡ core.old.journal.steps }
     ensures topology { core.new.topology ≡ core.old.topology }
@@ -41,7 +41,7 @@ pub fn make_room(core: &mut Core, stage: StageNo, count: u32) -> Result<(), Allo
 pub fn enroll(core: &mut Core, stage: StageNo, records: BytesList)
     requires holds { Holds core.old }
     requires legal { IsTrue (allows core.old.topology core.old.journal.steps (Step.Accept stage records)) }
-    requires room { length records ≤ spare_at core.old.waiting.items stage }
+    requires room { length records ≤ free_at core.old.waiting.items stage }
     ensures appended { core.new.journal.steps ≡ Step.Accept stage records ∷ core.old.journal.steps }
     ensures topology { core.new.topology ≡ core.old.topology }
     ensures holds { Holds core.new }
@@ -69,7 +69,7 @@ pub fn enroll(core: &mut Core, stage: StageNo, records: BytesList)
 }
 
 /// Puts the records behind the others, each with its partition and its number.
-fn queue_new(queue: &mut VecDeque<(u32, u32)>, spec: &StageSpec, accepted: u32, records: &[Bytes])
+fn queue_new(queue: &mut Buffer<u32>, spec: &StageSpec, accepted: u32, records: &[Bytes])
     requires parts { HasParts spec.now }
     requires numbers { accepted + length records.now < 2 ^ 32 }
     requires room { deque_len queue.old + length records.now ≤ deque_capacity queue.old }

@@ -3,8 +3,9 @@
 ghost use Rattle.std.specs.Prelude.{◌≡◌, ◌∷◌, [], ◌≤◌, ◌||◌, ◌==◌, length, map, All, None, true, false, not, OnOk, OnErr, IfOk, IfErr, IsTrue};
 ghost use Rattle.pipe_types.specs.Stages.{spec_of};
 ghost use Rattle.pipe_model.specs.{Lives.{is_live}, Flow.{is_batcher}, Legal.{allows, owed, may_dispatch}};
-ghost use Rattle.core_tables.specs.Tables.{spare_at, HasRoom as HasInboxRoom};
+ghost use Rattle.core_tables.specs.Tables.{HasRoom as HasInboxRoom};
 ghost use Rattle.core_laws.specs.Enrolled.{record_part};
+ghost use Rattle.core_waits.specs.Waits.{free_at};
 ghost use Rattle.core_state.specs.Stands.{Holds, Stands};
 ghost use Rattle.core_sends.specs.Rooms.{planned};
 ghost use Rattle.core_accepts.specs.Records.{HasParts, is_over, and_dispatch};
@@ -69,7 +70,7 @@ fn prepare(core: &mut Core, stage: StageNo, records: &[Bytes]) -> Result<Vec<Sen
     requires legal { IsTrue (allows core.old.topology core.old.journal.steps (Step.Accept stage records.now)) }
     ensures planned { IfOk result (λ sent. sent.items ≡ planned core.old.topology (Step.Accept stage records.now ∷ core.old.journal.steps) stage []) }
     ensures inboxes { IfOk result (λ sent. All (HasInboxRoom (length sent.items) core.new.inboxes.items) sent.items) }
-    ensures room { OnOk result (length records.now ≤ spare_at core.new.waiting.items stage) }
+    ensures room { OnOk result (length records.now ≤ free_at core.new.waiting.items stage) }
     ensures steps { OnOk result (1090 ≤ core.new.journal.spare) }
     ensures unchanged { core.new.journal.steps ≡ core.old.journal.steps }
     ensures topology { core.new.topology ≡ core.old.topology }

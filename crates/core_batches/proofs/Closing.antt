@@ -6,7 +6,6 @@ use Rattle.std.proofs.lemmas.List.{length-append, map-append}
 use Rattle.std.proofs.lemmas.Option.{slice_get_within}
 use Rattle.std.specs.declared.alloc.Global.{Global}
 use Rattle.std.specs.declared.vec.Vec.{Vec}
-use Rattle.std.specs.declared.collections.VecDeque.{VecDeque}
 use Rattle.pipe_types.specs.declared.numbers.StageNo.{StageNo}
 use Rattle.pipe_types.specs.declared.numbers.MsgNo.{MsgNo}
 use Rattle.pipe_types.specs.declared.message.Place.{Place}
@@ -50,21 +49,23 @@ use Rattle.batcher.specs.declared.Closable.{Closable}
 use Rattle.pipe_journal.specs.Recorded.{Recorded}
 use Rattle.core_tables.specs.declared.rows.Totals.{Totals}
 use Rattle.core_tables.specs.declared.rows.BatchRow.{BatchRow}
-use Rattle.core_tables.specs.Tables.{queue_at, spare_at}
 use Rattle.core_tables.proofs.Tables.{same_or_other}
 use Rattle.core_laws.specs.Columns.{closed_numbers, sent_on, ends_in_progress, open_of, open_batches, keys_of, part_of, part_by, is_by_partition, waiting_parts}
 use Rattle.core_laws.proofs.Lawful.{legal_after}
 use Rattle.core_laws.proofs.Past.{known_within, live_known}
 use Rattle.core_laws.proofs.LegsOn.{none_sent, waiting_closed}
+use Rattle.core_waits.specs.Waits.{Shape, units_at, shape_at, shape_for, parts_by, free_at}
+use Rattle.core_waits.proofs.Parts.{partition_low}
+use Rattle.stage_buffer.specs.Waiting.{Waiting}
 use Rattle.core_state.specs.declared.state.Core.{Core}
 use Rattle.core_state.specs.Room.{Roomy}
 use Rattle.core_state.specs.Stands.{Fields, Stands, opens_in, opens_at, closed_seen, KeepsLog}
 use Rattle.core_state.proofs.Reading.{some_at}
-use Rattle.core_batches.specs.Closes.{without_open, HasParts}
+use Rattle.core_batches.specs.Closes.{batch_part, without_open, HasParts}
 use Rattle.core_batches.proofs.Limits.{flip, limits_after}
 use Rattle.core_batches.proofs.Opens.{each_same}
 use Rattle.core_batches.proofs.Removing.{others, opens_removed, opens_closed, open_at, of_some_key, each_of_all, each_mapped, first_is, key_of_first}
-use Rattle.core_state.proofs.Parts.{Part, BatchersLen, BatchersSet, BatchesAre, BatchesLen, ChunksAre, InboxesAre, LegsAre, OpensAre, PlacesAre, PlacesLen, SentOnAre, TotalsAre, WaitingAre, WaitingLen, Says, unchanged, fields_of}
+use Rattle.core_state.proofs.Parts.{Part, BatchersLen, BatchersSet, BatchesAre, BatchesLen, ChunksAre, InboxesAre, LegsAre, OpensAre, PlacesAre, PlacesLen, SentOnAre, TotalsAre, WaitingAre, WaitingLen, WaitingSet, Says, unchanged, fields_of}
 
 -- the open batch that is closed: its numbers, its key, and its place among the open batches
 pub record IsClosing (topology : Topology) (before : History) (s : StageNo) (m : MsgNo) (trigger : Trigger) (at : ℕ) (k ms : List ℕ) : Type 0 where
@@ -291,15 +292,15 @@ opens_after topology before s t first trigger at key numbers old new g within re
 
 -- the fields after a close
 pub closed_fields : (core : Core) (topology : Topology) (before : History) (s : StageNo) (first : MsgNo) (trigger : Trigger) (at : ℕ) (key numbers : List ℕ) (spec : StageSpec) (part : ℕ)
-    (j : Recorded) (batchers : Vec Batches Global) (queues : Vec (VecDeque (ℕ × ℕ) Global) Global) (places : Vec Place Global) (rows : Vec BatchRow Global) (row : BatchRow)
+    (j : Recorded) (batchers : Vec Batches Global) (queues : Vec (Waiting ℕ) Global) (places : Vec Place Global) (rows : Vec BatchRow Global) (row : BatchRow)
     → IsSound topology → Fields core topology before → IsClosing topology before s first trigger at key numbers
     → spec_of topology s ≡ Some spec → part ≡ (if is_by_partition spec.dispatch then partition_of key spec.parts else 0)
     → ((i : ℕ) → slice_get batchers.items i ≡ (if s.0 == i then option_map (without_open at) (slice_get core.batchers.items i) else slice_get core.batchers.items i)) → length batchers.items ≡ length core.batchers.items
-    → ((t : StageNo) → queue_at queues.items t ≡ (if s.0 == t.0 then queue_at core.waiting.items t ++ (part, closed before + 1) ∷ [] else queue_at core.waiting.items t)) → length queues.items ≡ length core.waiting.items
+    → ((t : StageNo) → units_at queues.items t ≡ (if s.0 == t.0 then units_at core.waiting.items t ++ (part, closed before + 1) ∷ [] else units_at core.waiting.items t)) → ((t : StageNo) → shape_at queues.items t ≡ shape_at core.waiting.items t) → length queues.items ≡ length core.waiting.items
     → ((i : ℕ) → slice_get places.items i ≡ option_map (put_in_batch numbers s (closed before + 1) (suc i)) (slice_get core.places.items i)) → length places.items ≡ length core.places.items
     → rows.items ≡ core.batches.items ++ row ∷ [] → closed_seen row ≡ record { numbers = numbers; trigger = trigger } → row.subs.items ≡ []
     → Fields (record core { journal = j; batchers = batchers; waiting = queues; places = places; batches = rows; totals = record core.totals { quiet = 0 } }) topology (Close s first trigger ∷ before)
-closed_fields core topology before s first trigger at key numbers spec part j batchers queues places rows row sound x g known parted removed len-batchers queued len-queues placed len-places pushed seen unsent = fields_of says
+closed_fields core topology before s first trigger at key numbers spec part j batchers queues places rows row sound x g known parted removed len-batchers queued shapes len-queues placed len-places pushed seen unsent = fields_of says
   where
     same : numbers ≡ closing before (view_of topology before) s first.0
     same = g.numbers ∙ sym g.closes
@@ -309,6 +310,7 @@ closed_fields core topology before s first trigger at key numbers spec part j ba
     says BatchersLen = len-batchers ∙ x.sized.batchers
     says PlacesLen = len-places ∙ x.sized.places
     says BatchesLen = (let more = length-append core.batches.items (row ∷ []) in let len = ap length pushed in let old = x.sized.batches in omega (arith, more, len, old))
+    says WaitingSet = λ t sp e. shapes t ∙ x.set.waiting t sp e
     says BatchersSet = λ t sp held e f. limits_after (without_open at) (λ h. refl) (λ h. refl) s t core.batchers.items batchers.items sp held removed (λ h k. x.set.batchers t sp h e k) f
     says WaitingAre = λ t.
         queued t
@@ -488,7 +490,7 @@ spec_here topology s sound low high =
     (found.0, record { there = found.1; known = ap (spec_of topology) (sym same) ∙ t.found (s.0 - 1) found.0 found.1 })
 
 -- a batcher that dispatches by partition has a part
-has_parts : (topology : Topology) (s : StageNo) (spec : StageSpec) → IsSound topology → spec_of topology s ≡ Some spec → has_role topology s is_batcher_role ≡ true → HasParts spec
+pub has_parts : (topology : Topology) (s : StageNo) (spec : StageSpec) → IsSound topology → spec_of topology s ≡ Some spec → has_role topology s is_batcher_role ≡ true → HasParts spec
 has_parts topology s spec sound e role =
     record {
       some = by spec.dispatch
@@ -518,11 +520,22 @@ parts_here topology s sound role low high =
     let found = spec_here topology s sound low high in
     subst (λ (o : Option StageSpec). IfSome o HasParts) (sym found.1.there) (has_parts topology s found.0 sound found.1.known role)
 
+-- the partition of a batch is one of its stage's buffer
+pub low_part : (ws : List (Waiting ℕ)) (s : StageNo) (spec : StageSpec) (part : ℕ) (key : List ℕ) → shape_at ws s ≡ Some (shape_for spec) → part ≡ batch_part (Some spec) key → HasParts spec
+    → IfSome (shape_at ws s) (λ shape. part < shape.parts)
+low_part ws s spec part key shape is has =
+    subst (λ (o : Option Shape). IfSome o (λ x. part < x.parts)) (sym shape) (subst (λ n. n < parts_by spec.dispatch spec.parts) (sym is) (by spec.dispatch has.some))
+  where
+    by : (d : DispatchKind) → (d ≡ Partition → 1 ≤ spec.parts) → (if is_by_partition d then partition_of key spec.parts else 0) < parts_by d spec.parts
+    by Partition h = partition_low key spec.parts (h refl)
+    by Demand h = omega arith
+    by Broadcast h = omega arith
+
 -- Where the journal and the tables made room alone, the core stands
-pub roomy_stands : (core : Core) (j : Recorded) (rows : Vec BatchRow Global) (queues : Vec (VecDeque (ℕ × ℕ) Global) Global) → Stands core → j.steps ≡ core.journal.steps → rows.items ≡ core.batches.items
-    → ((t : StageNo) → queue_at queues.items t ≡ queue_at core.waiting.items t) → length queues.items ≡ length core.waiting.items
-    → core.journal.spare ≤ j.spare → ((t : StageNo) → spare_at core.waiting.items t ≤ spare_at queues.items t) → j.acked ≡ core.journal.acked → Stands (record core { journal = j; batches = rows; waiting = queues })
-roomy_stands core j rows queues stands same kept queued len spare rooms acked =
+pub roomy_stands : (core : Core) (j : Recorded) (rows : Vec BatchRow Global) (queues : Vec (Waiting ℕ) Global) → Stands core → j.steps ≡ core.journal.steps → rows.items ≡ core.batches.items
+    → ((t : StageNo) → units_at queues.items t ≡ units_at core.waiting.items t) → ((t : StageNo) → shape_at queues.items t ≡ shape_at core.waiting.items t) → length queues.items ≡ length core.waiting.items
+    → core.journal.spare ≤ j.spare → ((t : StageNo) → free_at core.waiting.items t ≤ free_at queues.items t) → j.acked ≡ core.journal.acked → Stands (record core { journal = j; batches = rows; waiting = queues })
+roomy_stands core j rows queues stands same kept queued shapes len spare rooms acked =
     record {
       holds =
           record {
@@ -550,6 +563,7 @@ roomy_stands core j rows queues stands same kept queued len spare rooms acked =
         says : (it : Part) → Says it (record core { journal = j; batches = rows; waiting = queues }) topology before
         says WaitingLen = len ∙ x.sized.waiting
         says BatchesLen = ap length kept ∙ x.sized.batches
+        says WaitingSet = λ t spec e. shapes t ∙ x.set.waiting t spec e
         says WaitingAre = λ t. queued t ∙ x.waiting t
         says BatchesAre = λ i. ap (λ rs. option_map closed_seen (slice_get rs i)) kept ∙ x.batches i
         says SentOnAre = λ i row f. x.sent_on i row (ap (λ rs. slice_get rs i) (sym kept) ∙ f)

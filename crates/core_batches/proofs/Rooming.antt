@@ -3,7 +3,6 @@ use Rattle.std.proofs.Common.{◌≡◌, ℕ, ◌+◌, ◌≤◌, List, ◌∷�
 use Rattle.std.specs.Prelude.{◌==◌, ◌&&◌, not, vec_capacity}
 use Rattle.std.specs.declared.alloc.Global.{Global}
 use Rattle.std.specs.declared.vec.Vec.{Vec}
-use Rattle.std.specs.declared.collections.VecDeque.{VecDeque}
 use Rattle.pipe_types.specs.declared.numbers.StageNo.{StageNo}
 use Rattle.pipe_types.specs.declared.numbers.SubNo.{SubNo}
 use Rattle.pipe_types.specs.declared.topology.Role.{Role}
@@ -22,12 +21,14 @@ use Rattle.pipe_model.specs.Taken.{closed_as}
 use Rattle.pipe_laws.proofs.Tests.{and_left, both, same_stage-self, same_stage-true}
 use Rattle.pipe_laws.proofs.Allowed.{wrote_facts}
 use Rattle.pipe_laws.proofs.Busy.{two_roles}
-use Rattle.core_tables.specs.Tables.{list_at, spare_at, room_at}
+use Rattle.core_tables.specs.Tables.{list_at, room_at}
 use Rattle.core_laws.specs.Columns.{closed_numbers}
 use Rattle.core_laws.specs.Due.{due_steps, taken_size}
 use Rattle.core_laws.proofs.Came.{flip}
 use Rattle.core_laws.proofs.Due.{answer_due}
 use Rattle.core_laws.proofs.Feeders.{feeders_process}
+use Rattle.core_waits.specs.Waits.{free_at}
+use Rattle.stage_buffer.specs.Waiting.{Waiting}
 use Rattle.core_state.specs.declared.state.Core.{Core}
 use Rattle.core_state.specs.Room.{Roomy}
 use Rattle.core_state.specs.Stands.{Holds}
@@ -41,12 +42,12 @@ processes_or_batches Processor h k = let x : false ≡ true = k in cc
 processes_or_batches _ h k = let x : false ≡ true = h in cc
 
 -- a batcher's queue is beside the room in queues
-pub close_queues : (core : Core) (s : StageNo) (waiting : List (VecDeque (ℕ × ℕ) Global)) → Holds core → has_role core.topology s is_batcher_role ≡ true
-    → ((t : StageNo) → (s.0 == t.0) ≡ false → spare_at core.waiting.items t ≤ spare_at waiting t)
-    → (t : StageNo) → has_batchers_in (spec_of core.topology t) ≡ true → length (list_at core.chunks.items t) ≤ spare_at waiting t
+pub close_queues : (core : Core) (s : StageNo) (waiting : List (Waiting ℕ)) → Holds core → has_role core.topology s is_batcher_role ≡ true
+    → ((t : StageNo) → (s.0 == t.0) ≡ false → free_at core.waiting.items t ≤ free_at waiting t)
+    → (t : StageNo) → has_batchers_in (spec_of core.topology t) ≡ true → length (list_at core.chunks.items t) ≤ free_at waiting t
 close_queues core s waiting x batches rooms t feeds = by (s.0 == t.0) refl
   where
-    by : (b : Bool) → (s.0 == t.0) ≡ b → length (list_at core.chunks.items t) ≤ spare_at waiting t
+    by : (b : Bool) → (s.0 == t.0) ≡ b → length (list_at core.chunks.items t) ≤ free_at waiting t
     by true e =
         let here : s ≡ t = same_stage-true s t e in
         absurd (two_roles core.topology s is_processor_role is_batcher_role processes_or_batches (ap (λ v. has_role core.topology v is_processor_role) here ∙ feeders_process core.topology t x.sound feeds) batches)
@@ -86,8 +87,8 @@ wrote_room core new s bytes end x allowed due places settled producers contents 
           same_rows _ core.places new.places core.settled new.settled core.producers new.producers core.contents new.contents (rows_kept core (Wrote s bytes end) x allowed (λ t n e. cc))
           places settled (ap (λ v. vec_capacity v) producers) (ap (λ v. vec_capacity v) contents);
       queues = λ t h.
-          subst (λ (v : Vec (Vec ℕ Global) Global). length (list_at v.items t) ≤ spare_at new.waiting.items t) (sym chunks)
-          (subst (λ (w : Vec (VecDeque (ℕ × ℕ) Global) Global). length (list_at core.chunks.items t) ≤ spare_at w.items t) (sym waiting) (x.room.queues t h));
+          subst (λ (v : Vec (Vec ℕ Global) Global). length (list_at v.items t) ≤ free_at new.waiting.items t) (sym chunks)
+          (subst (λ (w : Vec (Waiting ℕ) Global). length (list_at core.chunks.items t) ≤ free_at w.items t) (sym waiting) (x.room.queues t h));
       ends = λ t role out. of_stage t role out (same_stage t s) refl;
     }
   where

@@ -4,7 +4,6 @@ ghost use Rattle.std.specs.Prelude.{◌≡◌, ℕ, ◌∷◌, [], ◌++◌, ◌
 ghost use Rattle.pipe_types.specs.declared.numbers.StageNo.{StageNo as Stage};
 ghost use Rattle.pipe_model.specs.Flow.{put_in_batch};
 ghost use Rattle.batcher.specs.Batches.{IsClosable, first_of, trigger_of};
-ghost use Rattle.core_tables.specs.Tables.{queue_at, spare_at};
 ghost use Rattle.core_state.specs.Stands.{closed_seen};
 ghost use Rattle.core_batches.specs.Closes.{without_open, join_in, batch_part, HasParts};
 
@@ -16,39 +15,6 @@ use pipe_types::message::{Place, Trigger};
 use pipe_types::numbers::{BatchNo, MsgNo, StageNo};
 use pipe_types::topology::{Dispatch, StageSpec, Topology};
 use std::alloc::{AllocError, Global};
-use std::collections::VecDeque;
-
-/// Makes room for one unit more that waits in the stage. The queues hold what they held.
-pub(crate) fn make_room_for_one(
-    waiting: &mut Vec<VecDeque<(u32, u32)>>,
-    stage: StageNo,
-) -> Result<(), AllocError>
-    requires within { stage.0 < length waiting.old.items }
-    ensures same { (s : Stage) → queue_at waiting.new.items s ≡ queue_at waiting.old.items s }
-    ensures len { length waiting.new.items ≡ length waiting.old.items }
-    ensures room { OnOk result (1 ≤ spare_at waiting.new.items stage) }
-    ensures rooms { (s : Stage) → spare_at waiting.old.items s ≤ spare_at waiting.new.items s }
-{
-    let queue = &mut waiting[stage.0 as usize];
-    queue.reserve(1)
-}
-
-/// Puts the batch behind the units that wait in the stage.
-pub(crate) fn queue_batch(
-    waiting: &mut Vec<VecDeque<(u32, u32)>>,
-    stage: StageNo,
-    part: u32,
-    no: BatchNo,
-)
-    requires within { stage.0 < length waiting.old.items }
-    requires room { 1 ≤ spare_at waiting.old.items stage }
-    ensures queued { (s : Stage) → queue_at waiting.new.items s ≡ (if stage.0 == s.0 then queue_at waiting.old.items s ++ (part, no.0) ∷ [] else queue_at waiting.old.items s) }
-    ensures rooms { (s : Stage) → (stage.0 == s.0) ≡ false → spare_at waiting.new.items s ≡ spare_at waiting.old.items s }
-    ensures len { length waiting.new.items ≡ length waiting.old.items }
-{
-    let queue = &mut waiting[stage.0 as usize];
-    queue.push_back_reserved((part, no.0));
-}
 
 /// The open batch of the stage that begins with the message, with the trigger that holds of it. There is one.
 pub(crate) fn closable_in(

@@ -6,10 +6,9 @@ ghost use Rattle.pipe_model.specs.{History.{closed}, Legal.{allows, is_dry}};
 ghost use Rattle.core_state.specs.Stands.{Stands};
 ghost use Rattle.core_batches.specs.Closes.{MayClose};
 
-use crate::batches::{
-    closable_in, close_open, join_all, make_room_for_one, new_row, part_of_batch, queue_batch,
-};
+use crate::batches::{closable_in, close_open, join_all, new_row, part_of_batch};
 use core_state::{Core, MOST_DUE};
+use core_waits::{make_room, queue_unit};
 use pipe_types::numbers::{BatchNo, MsgNo, StageNo};
 use pipe_types::step::Step;
 use std::alloc::AllocError;
@@ -33,13 +32,13 @@ pub fn close_batch(
 {
     core.journal.reserve(MOST_DUE + 1)?;
     core.batches.reserve(1)?;
-    make_room_for_one(&mut core.waiting, stage)?;
+    make_room(&mut core.waiting, stage, 1)?;
     let found = closable_in(&core.batchers, stage, first, core.totals.now, dry);
     let no = BatchNo(core.batches.len() as u32 + 1);
     let batch = close_open(&mut core.batchers, stage, found, no);
     join_all(&mut core.places, &batch.numbers, stage, no);
     let part = part_of_batch(&core.topology, stage, batch.key.as_slice());
-    queue_batch(&mut core.waiting, stage, part, no);
+    queue_unit(&mut core.waiting, stage, part, no.0);
     let row = new_row(core.alloc, batch.numbers, batch.trigger);
     core.batches.push_reserved(row);
     core.totals.quiet = 0;

@@ -17,10 +17,11 @@ use Rattle.pipe_model.specs.Legal.{allows, has_role, is_processor_role, is_super
 use Rattle.pipe_laws.proofs.Tests.{and_left, both, same_stage-self, same_stage-true}
 use Rattle.pipe_laws.proofs.Allowed.{child_end_facts}
 use Rattle.pipe_laws.proofs.Busy.{two_roles}
-use Rattle.core_tables.specs.Tables.{list_at, spare_at}
+use Rattle.core_tables.specs.Tables.{list_at}
 use Rattle.core_laws.specs.Due.{due_steps}
 use Rattle.core_laws.proofs.Due.{answer_due}
 use Rattle.core_laws.proofs.Feeders.{feeders_process}
+use Rattle.core_waits.specs.Waits.{free_at}
 use Rattle.core_state.specs.declared.state.Core.{Core}
 use Rattle.core_state.specs.Stands.{Holds}
 
@@ -49,14 +50,14 @@ feeds_elsewhere core s t x starts feeds = by (s.0 == t.0) refl
 -- so what runs in one is beside the room in queues
 pub child_queues : (core : Core) (s : StageNo) (chunks : List (Vec ℕ Global)) (moved : StageNo → List ℕ) → Holds core → has_role core.topology s is_supervisor_role ≡ true
     → ((t : StageNo) → list_at chunks t ≡ (if s.0 == t.0 then moved t else list_at core.chunks.items t))
-    → (t : StageNo) → has_batchers_in (spec_of core.topology t) ≡ true → length (list_at chunks t) ≤ spare_at core.waiting.items t
+    → (t : StageNo) → has_batchers_in (spec_of core.topology t) ≡ true → length (list_at chunks t) ≤ free_at core.waiting.items t
 child_queues core s chunks moved x starts changed t feeds =
     let same : list_at chunks t ≡ list_at core.chunks.items t = changed t ∙ ap (λ b. if b then moved t else list_at core.chunks.items t) (feeds_elsewhere core s t x starts feeds) in
     omega (arith, ap length same, x.room.queues t feeds)
 
 pub ended_queues : (core : Core) (s : StageNo) (n : ℕ) (again : Bool) (chunks : List (Vec ℕ Global)) → Holds core → has_role core.topology s is_supervisor_role ≡ true
     → ((t : StageNo) → list_at chunks t ≡ (if s.0 == t.0 && not again then filter (λ m. not (n == m)) (list_at core.chunks.items t) else list_at core.chunks.items t))
-    → (t : StageNo) → has_batchers_in (spec_of core.topology t) ≡ true → length (list_at chunks t) ≤ spare_at core.waiting.items t
+    → (t : StageNo) → has_batchers_in (spec_of core.topology t) ≡ true → length (list_at chunks t) ≤ free_at core.waiting.items t
 ended_queues core s n again chunks x starts changed t feeds =
     let same : list_at chunks t ≡ list_at core.chunks.items t =
     changed t ∙ ap (λ b. if b && not again then filter (λ m. not (n == m)) (list_at core.chunks.items t) else list_at core.chunks.items t) (feeds_elsewhere core s t x starts feeds) in

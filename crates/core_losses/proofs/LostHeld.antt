@@ -18,6 +18,7 @@ use Rattle.core_laws.specs.Columns.{ends_in_progress}
 use Rattle.stage_laws.proofs.Numbering.{numbered_topology}
 use Rattle.stage_laws.proofs.Bounds.{closed_few}
 use Rattle.stage_laws.proofs.Records.{accepted_within, limit_within}
+use Rattle.stage_buffer.specs.Waiting.{Waiting}
 use Rattle.core_state.specs.declared.state.Core.{Core}
 use Rattle.core_state.specs.Stands.{Holds}
 use Rattle.core_losses.specs.Losses.{incarnation_at}
@@ -28,7 +29,7 @@ use Rattle.core_losses.specs.Batches.{drop_due, AreSeen, after_kill, left_batch}
 pub record Tables : Type 0 where
   pub rows : List StageRow
   pub posts : List PostRow
-  pub waiting : List (VecDeque (ℕ × ℕ) Global)
+  pub waiting : List (Waiting ℕ)
   pub inboxes : List (VecDeque (SubNo × ℕ) Global)
   pub batches : List BatchRow
   pub specs : List StageSpec
@@ -46,7 +47,7 @@ pub record ArePassed (why : StageNo → Option Why) (t : Tables) (mark : ℕ) (l
   pub marked : (seen : Seen why t legs places) → (i : ℕ) → slice_get marks' i ≡ option_map {T = ℕ} {U = ℕ} (λ old. if left_batch (after_kill why (incarnation_at t.rows) seen.batch) (slice_get places i) then mark else old) (slice_get marks i)
 
 -- tables part by part
-pub same_tables : (t : Tables) (rows : List StageRow) (posts : List PostRow) (waiting : List (VecDeque (ℕ × ℕ) Global)) (inboxes : List (VecDeque (SubNo × ℕ) Global)) (batches : List BatchRow) (specs : List StageSpec)
+pub same_tables : (t : Tables) (rows : List StageRow) (posts : List PostRow) (waiting : List (Waiting ℕ)) (inboxes : List (VecDeque (SubNo × ℕ) Global)) (batches : List BatchRow) (specs : List StageSpec)
     → rows ≡ t.rows → posts ≡ t.posts → waiting ≡ t.waiting → inboxes ≡ t.inboxes → batches ≡ t.batches → specs ≡ t.specs
     → ◌≡◌ {A = Tables} (record { rows = rows; posts = posts; waiting = waiting; inboxes = inboxes; batches = batches; specs = specs }) t
 same_tables t rows posts waiting inboxes batches specs a b c d e f = λ i. record { rows = a i; posts = b i; waiting = c i; inboxes = d i; batches = e i; specs = f i }

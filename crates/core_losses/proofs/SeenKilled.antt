@@ -38,7 +38,7 @@ use Rattle.queue_laws.proofs.Sounds.{found_self}
 use Rattle.stage_laws.proofs.Bounds.{batch_least}
 use Rattle.stage_laws.proofs.Settling.{in_numbers}
 use Rattle.core_tables.specs.declared.rows.BatchRow.{BatchRow}
-use Rattle.core_tables.specs.Tables.{queue_at}
+use Rattle.core_waits.specs.Waits.{units_at}
 use Rattle.core_state.proofs.Settling.{numbers_once}
 use Rattle.core_laws.proofs.LegsOn.{IsOnSubs, PlaceOn, legs_are_on, sent_waits}
 use Rattle.core_state.proofs.Settling.{pairs_apart}
@@ -192,10 +192,10 @@ drop_there core step killed b y spec x is there = by (is_batcher_role spec.role)
     loss : Option Loss
     loss = loss_in (incarnation_at core.stages.items spec.no) spec.no (reason_at killed spec.no)
 
-    units : map (λ (unit : ℕ × ℕ). unit.1) (queue_at core.waiting.items spec.no) ≡ waiting core.topology core.journal.steps spec.no
+    units : map (λ (unit : ℕ × ℕ). unit.1) (units_at core.waiting.items spec.no) ≡ waiting core.topology core.journal.steps spec.no
     units = ap (map (λ (unit : ℕ × ℕ). unit.1)) (x.holds.fields.waiting spec.no) ∙ units_of core.topology core.journal.steps (spec_of core.topology spec.no) (waiting core.topology core.journal.steps spec.no)
 
-    by : (c : Bool) → is_batcher_role spec.role ≡ c → (if c && among (map (λ (unit : ℕ × ℕ). unit.1) (queue_at core.waiting.items spec.no)) b then loss_in (incarnation_at core.stages.items spec.no) spec.no (reason_at killed spec.no) else None)
+    by : (c : Bool) → is_batcher_role spec.role ≡ c → (if c && among (map (λ (unit : ℕ × ℕ). unit.1) (units_at core.waiting.items spec.no)) b then loss_in (incarnation_at core.stages.items spec.no) spec.no (reason_at killed spec.no) else None)
         ≡ (if c && at_batcher spec.no y.place then loss_in (incarnation_at core.stages.items spec.no) spec.no (reason_at killed spec.no) else None)
     by false e = refl
     by true e =

@@ -20,7 +20,8 @@ use Rattle.message_ack.specs.Ends.{Ends, sent_in}
 use Rattle.core_tables.specs.declared.rows.StageRow.{StageRow}
 use Rattle.core_tables.specs.declared.rows.PostRow.{PostRow}
 use Rattle.core_tables.specs.declared.rows.BatchRow.{BatchRow}
-use Rattle.core_tables.specs.Tables.{queue_at}
+use Rattle.core_waits.specs.Waits.{units_at}
+use Rattle.stage_buffer.specs.Waiting.{Waiting}
 use Rattle.core_state.specs.Settles.{AreNumbers}
 use Rattle.core_laws.specs.Columns.{ends_in_progress}
 use Rattle.core_deaths.specs.Reasons.{reason_at}
@@ -40,12 +41,12 @@ abbrev pub first_loss : (StageSpec → Option Loss) → List StageSpec → Optio
 first_loss loss [] = None
 first_loss loss (spec ∷ specs) = or_loss (loss spec) (first_loss loss specs)
 
-abbrev pub drop_in : List StageRow → List (VecDeque (ℕ × ℕ) Global) → (why : StageNo → Option Why) → (batch : ℕ) → StageSpec → Option Loss
+abbrev pub drop_in : List StageRow → List (Waiting ℕ) → (why : StageNo → Option Why) → (batch : ℕ) → StageSpec → Option Loss
 drop_in rows waiting why b spec =
-    drop_at (loss_in (incarnation_at rows spec.no) spec.no (why spec.no)) spec.role (among (map (λ (unit : ℕ × ℕ). unit.1) (queue_at waiting spec.no)) b)
+    drop_at (loss_in (incarnation_at rows spec.no) spec.no (why spec.no)) spec.role (among (map (λ (unit : ℕ × ℕ). unit.1) (units_at waiting spec.no)) b)
 
 -- how the batch is lost with the batcher in which it waits
-abbrev pub drop_due : List StageRow → List (VecDeque (ℕ × ℕ) Global) → (why : StageNo → Option Why) → List StageSpec → (batch : ℕ) → Option Loss
+abbrev pub drop_due : List StageRow → List (Waiting ℕ) → (why : StageNo → Option Why) → List StageSpec → (batch : ℕ) → Option Loss
 drop_due rows waiting why specs b = first_loss (drop_in rows waiting why b) specs
 
 -- the same of a batch that stands so
@@ -114,10 +115,10 @@ pub record AreSeen (due : SubNo → ℕ → Option Loss) (why : StageNo → Opti
 
 -- Both, as the tables say it of a kill for these reasons
 
-abbrev pub BatchSeen : List StageRow → List PostRow → List (VecDeque (ℕ × ℕ) Global) → List (VecDeque (SubNo × ℕ) Global) → (killed : List (Option Why)) → List StageSpec → (batch count : ℕ) → BatchRow → List (ℕ × Ends) → Type 0
+abbrev pub BatchSeen : List StageRow → List PostRow → List (Waiting ℕ) → List (VecDeque (SubNo × ℕ) Global) → (killed : List (Option Why)) → List StageSpec → (batch count : ℕ) → BatchRow → List (ℕ × Ends) → Type 0
 BatchSeen rows posts waiting inboxes killed specs b count row legs =
     SeenBatch (leg_due rows posts inboxes (reason_at killed)) (reason_at killed) (incarnation_at rows) (drop_due rows waiting (reason_at killed) specs b) b count row.numbers.items row.subs.items (sent_in legs b)
 
-abbrev pub BatchesSeen : List StageRow → List PostRow → List (VecDeque (ℕ × ℕ) Global) → List (VecDeque (SubNo × ℕ) Global) → (killed : List (Option Why)) → List StageSpec → List (ℕ × Ends) → List BatchRow → List Place → Type 0
+abbrev pub BatchesSeen : List StageRow → List PostRow → List (Waiting ℕ) → List (VecDeque (SubNo × ℕ) Global) → (killed : List (Option Why)) → List StageSpec → List (ℕ × Ends) → List BatchRow → List Place → Type 0
 BatchesSeen rows posts waiting inboxes killed specs legs batches places =
     AreSeen (leg_due rows posts inboxes (reason_at killed)) (reason_at killed) (incarnation_at rows) (drop_due rows waiting (reason_at killed) specs) legs batches places

@@ -17,6 +17,7 @@ use message_ack::{Legs, Settled};
 use pipe_types::message::{Loss, Why};
 use pipe_types::numbers::{BatchNo, SubNo};
 use pipe_types::topology::{Role, StageSpec};
+use stage_buffer::Buffer;
 use std::collections::VecDeque;
 
 fn is_batcher(role: Role) -> bool
@@ -25,16 +26,11 @@ fn is_batcher(role: Role) -> bool
     matches!(role, Role::Batcher)
 }
 
-/// Whether the unit waits in the queue.
-fn waits_in(queue: &VecDeque<(u32, u32)>, unit: u32) -> bool
-    ensures { result ≡ among (map (λ unit. unit.1) queue.now.items) unit }
+/// Whether the unit waits in the buffer.
+fn waits_in(buffer: &Buffer<u32>, unit: u32) -> bool
+    ensures { result ≡ among (map (λ unit. unit.1) buffer.now.units) unit }
 {
-    for k in 0..queue.len() {
-        if queue[k].1 == unit {
-            return true;
-        }
-    }
-    false
+    buffer.contains(unit)
 }
 
 /// How the batch is lost with the stage, where it waits there, and the stage is a batcher and is killed.
@@ -42,14 +38,14 @@ fn drop_with(
     spec: &StageSpec,
     no: BatchNo,
     rows: &[StageRow],
-    queue: &VecDeque<(u32, u32)>,
+    buffer: &Buffer<u32>,
     killed: &[Option<Why>],
 ) -> Option<Loss>
     requires rows { length rows.now ≡ length killed.now }
-    ensures { result ≡ drop_at (loss_in (incarnation_at rows.now spec.now.no) spec.now.no (reason_at killed.now spec.now.no)) spec.now.role (among (map (λ unit. unit.1) queue.now.items) no.0) }
+    ensures { result ≡ drop_at (loss_in (incarnation_at rows.now spec.now.no) spec.now.no (reason_at killed.now spec.now.no)) spec.now.role (among (map (λ unit. unit.1) buffer.now.units) no.0) }
 {
     let loss = loss_of(rows, killed, spec.no);
-    if loss.is_some() && is_batcher(spec.role) && waits_in(queue, no.0) {
+    if loss.is_some() && is_batcher(spec.role) && waits_in(buffer, no.0) {
         loss
     } else {
         None
@@ -61,7 +57,7 @@ fn dropped(
     specs: &[StageSpec],
     no: BatchNo,
     rows: &[StageRow],
-    waiting: &[VecDeque<(u32, u32)>],
+    waiting: &[Buffer<u32>],
     killed: &[Option<Why>],
 ) -> Option<Loss>
     requires rows { length rows.now ≡ length killed.now }
@@ -85,7 +81,7 @@ fn settle_batch(
     specs: &[StageSpec],
     rows: &[StageRow],
     posts: &[PostRow],
-    waiting: &[VecDeque<(u32, u32)>],
+    waiting: &[Buffer<u32>],
     inboxes: &[VecDeque<(SubNo, u32)>],
     killed: &[Option<Why>],
 ) -> Option<Settled>
@@ -118,7 +114,7 @@ fn lose_batch(
     specs: &[StageSpec],
     rows: &[StageRow],
     posts: &[PostRow],
-    waiting: &[VecDeque<(u32, u32)>],
+    waiting: &[Buffer<u32>],
     inboxes: &[VecDeque<(SubNo, u32)>],
     killed: &[Option<Why>],
     mark: u64,
@@ -154,7 +150,7 @@ pub(crate) fn lose_batches(
     specs: &[StageSpec],
     rows: &[StageRow],
     posts: &[PostRow],
-    waiting: &[VecDeque<(u32, u32)>],
+    waiting: &[Buffer<u32>],
     inboxes: &[VecDeque<(SubNo, u32)>],
     killed: &[Option<Why>],
     mark: u64,

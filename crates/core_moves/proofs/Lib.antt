@@ -5,3 +5,4 @@ pub mod Sending
 pub mod Starting
 pub mod Firsts
 pub mod Chain
+pub mod Waiting

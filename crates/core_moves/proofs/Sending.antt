@@ -30,7 +30,7 @@ use Rattle.core_sends.specs.Rooms.{room_on, room_between, marks_of}
 use Rattle.core_sends.specs.Picks.{picks_key}
 use Rattle.core_sends.proofs.BatchesSent.{each_batch_waits}
 use Rattle.core_sends.proofs.Front.{none_lone}
-use Rattle.core_moves.specs.Sends.{has_left, takes_part, is_let_in, goes_some, is_over, is_open_in, is_held_in, wants_in, first_number}
+use Rattle.core_moves.specs.Sends.{has_left, takes_part, is_let_in, goes_some, is_over, is_open_in, is_held_in, wants_in}
 use Rattle.core_rows.proofs.Queues.{empty_mapped}
 use Rattle.core_moves.proofs.Goes.{sends_is, serves_is, none_sent}
 
@@ -79,11 +79,6 @@ none_wait topology before s kind rooms e = by (waiting topology before s) e kind
 
 some_wait : (topology : Topology) (before : History) (s : StageNo) → is_empty (waiting topology before s) ≡ false → not (is_empty (marks_of topology before s)) ≡ true
 some_wait topology before s e = ap not (empty_mapped (λ n. mark_in before (view_of topology before) (spec_of topology s) n) (waiting topology before s) ∙ e)
-
--- the first unit that waits, as the table has it
-pub first_of_parts : (part : ℕ → ℕ) (ns : List ℕ) → first_number (map {B = ℕ × ℕ} (λ n. (part n, n)) ns) ≡ slice_get ns 0
-first_of_parts part [] = refl
-first_of_parts part (n ∷ ns) = refl
 
 pub no_first : (topology : Topology) (before : History) (s : StageNo) → slice_get (waiting topology before s) 0 ≡ None → is_empty (waiting topology before s) ≡ true
 no_first topology before s e = by (waiting topology before s) e

@@ -42,8 +42,3 @@ is_held_in picks (Some r) = picks r.sub && not (has_left r)
 abbrev pub wants_in : List (ℕ × ℕ) → Option Room → Bool
 wants_in units None = false
 wants_in units (Some r) = has_left r && list_any (λ unit. unit.0 == r.part) units
-
--- the number of the first unit of a queue
-abbrev pub first_number : List (ℕ × ℕ) → Option ℕ
-first_number [] = None
-first_number (unit ∷ units) = Some unit.1

@@ -4,11 +4,12 @@ ghost use Rattle.std.specs.{Prelude.{◌≡◌, ◌&&◌, ◌||◌, ◌==◌, no
 ghost use Rattle.pipe_types.specs.{declared.topology.Dispatch.TheVariants.{Broadcast, Partition}, Dispatchers.{ByDemand, ByBroadcast, ByPartition, served_as}, Stages.{spec_of}};
 ghost use Rattle.pipe_model.specs.{Lives.{is_live}, Content.{key_in}, Flow.{is_empty, batch, batch_waits_in, waiting, rooms_by, picks_by, view_of}, Legal.{may_dispatch}};
 ghost use Rattle.pipe_journal.specs.Items.{message_seen};
-ghost use Rattle.core_tables.specs.Tables.{items_in};
+ghost use Rattle.stage_buffer.specs.Waiting.{units_of_part};
+ghost use Rattle.core_waits.specs.Waits.{units_in};
 ghost use Rattle.core_laws.specs.Columns.{waiting_parts};
 ghost use Rattle.core_state.specs.Stands.{Stands};
 ghost use Rattle.core_sends.specs.{Rooms.{room_between, marks_of}, Picks.{picks_key}};
-ghost use Rattle.core_moves.specs.Sends.{goes_some, is_over, is_open_in, is_held_in, is_let_in, wants_in, first_number};
+ghost use Rattle.core_moves.specs.Sends.{goes_some, is_over, is_open_in, is_held_in, is_let_in, wants_in};
 
 use core_rows::rests::is_waiting_empty;
 use core_rows::rooms::waiting_len;
@@ -19,7 +20,7 @@ use pipe_journal::MessageView;
 use pipe_types::numbers::StageNo;
 use pipe_types::room::Room;
 use pipe_types::topology::{Dispatch, StageSpec, Topology};
-use std::collections::VecDeque;
+use stage_buffer::Buffer;
 
 /// Whether the stage is live, and its dispatch sends something, serves a batch that nobody picks, or loses what is over the
 /// size of its buffer. Where nothing waits it does none of these.
@@ -103,7 +104,7 @@ fn serves_first(core: &Core, spec: &StageSpec) -> bool
     requires kind { spec.now.dispatch ≡ Broadcast }
     ensures { result ≡ goes_some (ByBroadcast (picks_by core.now.topology core.now.journal.steps (view_of core.now.topology core.now.journal.steps))) (rooms_by core.now.topology core.now.journal.steps (view_of core.now.topology core.now.journal.steps) spec.now.no) (marks_of core.now.topology core.now.journal.steps spec.now.no) }
 {
-    match first_waiting(core, spec.no) {
+    match first_waiting(core, spec) {
         Some(first) => is_served(core, spec, first),
         None => false,
     }
@@ -123,23 +124,22 @@ fn is_served(core: &Core, spec: &StageSpec, first: u32) -> bool
     lets_in_all(core, spec, message)
 }
 
-/// The first unit that waits in the stage.
-fn first_waiting(core: &Core, stage: StageNo) -> Option<u32>
+/// The first unit that waits in the stage, which broadcasts.
+fn first_waiting(core: &Core, spec: &StageSpec) -> Option<u32>
     requires stands { Stands core.now }
-    ensures { result ≡ slice_get (waiting core.now.topology core.now.journal.steps stage) 0 }
+    requires there { spec_of core.now.topology spec.now.no ≡ Some spec.now }
+    requires kind { spec.now.dispatch ≡ Broadcast }
+    ensures { result ≡ slice_get (waiting core.now.topology core.now.journal.steps spec.now.no) 0 }
 {
-    first_of(&core.waiting, stage.0 as usize)
+    first_of(&core.waiting, spec.no.0 as usize)
 }
 
-/// The first unit of the queue at that place.
-fn first_of(queues: &[VecDeque<(u32, u32)>], at: usize) -> Option<u32>
-    ensures { result ≡ first_number (items_in (slice_get queues.now at)) }
+/// The first unit of the first part in the buffer at that place.
+fn first_of(buffers: &[Buffer<u32>], at: usize) -> Option<u32>
+    ensures { result ≡ slice_get (units_of_part 0 (units_in (slice_get buffers.now at))) 0 }
 {
-    match queues.get(at) {
-        Some(queue) => match queue.front() {
-            Some(unit) => Some(unit.1),
-            None => None,
-        },
+    match buffers.get(at) {
+        Some(buffer) => buffer.front(0).copied(),
         None => None,
     }
 }
@@ -233,25 +233,20 @@ fn is_wanted(core: &Core, stage: StageNo, room: Option<Room>) -> bool
     is_wanted_of(&core.waiting, stage.0 as usize, room)
 }
 
-fn is_wanted_of(queues: &[VecDeque<(u32, u32)>], at: usize, room: Option<Room>) -> bool
-    ensures { result ≡ wants_in (items_in (slice_get queues.now at)) room }
+fn is_wanted_of(buffers: &[Buffer<u32>], at: usize, room: Option<Room>) -> bool
+    ensures { result ≡ wants_in (units_in (slice_get buffers.now at)) room }
 {
-    match (room, queues.get(at)) {
-        (Some(room), Some(queue)) => 0 < room.left && has_part(queue, room.part),
+    match (room, buffers.get(at)) {
+        (Some(room), Some(buffer)) => 0 < room.left && has_part(buffer, room.part),
         _ => false,
     }
 }
 
-/// Whether a unit of the partition is in the queue.
-fn has_part(queue: &VecDeque<(u32, u32)>, part: u32) -> bool
-    ensures { result ≡ list_any (λ unit. unit.0 == part) queue.now.items }
+/// Whether a unit of the partition is in the buffer.
+fn has_part(buffer: &Buffer<u32>, part: u32) -> bool
+    ensures { result ≡ list_any (λ unit. unit.0 == part) buffer.now.units }
 {
-    for k in 0..queue.len() {
-        if queue[k].0 == part {
-            return true;
-        }
-    }
-    false
+    buffer.front(part).is_some()
 }
 
 /// Whether there is a room and something was asked for there and not sent.

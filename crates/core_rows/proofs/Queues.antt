@@ -1,13 +1,12 @@
 -- The queues' lengths are those of the tables.
 use Rattle.std.proofs.Common.{◌≡◌, ℕ, List, [], ◌∷◌, length, map, Bool, true, false, refl, ap, ◌∙◌, Some, None, arith}
 use Rattle.std.specs.Prelude.{◌==◌, ◌||◌, ◌+◌, if◌then◌else◌, nat_le, All, slice_get}
-use Rattle.std.specs.declared.alloc.Global.{Global}
-use Rattle.std.specs.declared.collections.VecDeque.{VecDeque}
 use Rattle.pipe_types.specs.declared.numbers.StageNo.{StageNo}
 use Rattle.pipe_types.specs.Stages.{spec_of}
 use Rattle.pipe_model.specs.History.{History}
 use Rattle.pipe_model.specs.Flow.{is_empty, waiting}
-use Rattle.core_tables.specs.Tables.{items_in}
+use Rattle.core_waits.specs.Waits.{units_in}
+use Rattle.stage_buffer.specs.Waiting.{Waiting}
 use Rattle.core_state.specs.declared.state.Core.{Core}
 use Rattle.core_state.specs.Stands.{Holds}
 use Rattle.core_laws.specs.Columns.{open_batches, part_of}
@@ -24,9 +23,9 @@ length_mapped f [] = refl
 length_mapped f (x ∷ xs) = let rest = length_mapped f xs in omega (arith, rest)
 
 -- what is read of the queue of a stage is read of what waits there
-pub read_waiting : {A : Type 0} (f : List (ℕ × ℕ) → A) (core : Core) (s : StageNo) (queues : List (VecDeque (ℕ × ℕ) Global)) → Holds core → queues ≡ core.waiting.items
-    → f (items_in (slice_get queues s.0)) ≡ f (map (λ n. (part_of core.topology core.journal.steps (spec_of core.topology s) n, n)) (waiting core.topology core.journal.steps s))
-read_waiting f core s queues x same = ap (λ qs. f (items_in (slice_get qs s.0))) same ∙ ap f (x.fields.waiting s)
+pub read_waiting : {A : Type 0} (f : List (ℕ × ℕ) → A) (core : Core) (s : StageNo) (queues : List (Waiting ℕ)) → Holds core → queues ≡ core.waiting.items
+    → f (units_in (slice_get queues s.0)) ≡ f (map (λ n. (part_of core.topology core.journal.steps (spec_of core.topology s) n, n)) (waiting core.topology core.journal.steps s))
+read_waiting f core s queues x same = ap (λ qs. f (units_in (slice_get qs s.0))) same ∙ ap f (x.fields.waiting s)
 
 pub empty_length : {A : Type 0} (xs : List A) → (length xs == 0) ≡ is_empty xs
 empty_length [] = refl

@@ -5,6 +5,7 @@ ghost use Rattle.pipe_types.specs.Stages.{spec_of};
 ghost use Rattle.pipe_model.specs.{Flow.{is_empty, waiting, inbox, chunk_by, view_of}, Legal.{is_dry, has_role, is_batcher_role, is_early_role}, Moves.{is_drained, jobs_out}};
 ghost use Rattle.pipe_model.specs.Standing.{all_clear, is_clear, is_done_above, gathered_in};
 ghost use Rattle.core_tables.specs.Tables.{items_in, list_in};
+ghost use Rattle.core_waits.specs.Waits.{units_in};
 ghost use Rattle.core_state.specs.Stands.{Stands, opens_in};
 ghost use Rattle.core_rows.specs.Left.{all_done_above};
 
@@ -13,6 +14,7 @@ use batcher::Batcher;
 use core_state::Core;
 use pipe_types::numbers::StageNo;
 use pipe_types::topology::{Role, StageSpec};
+use stage_buffer::Buffer;
 use std::collections::VecDeque;
 
 /// Whether the drain has begun, no job is out, and every accepted message is acknowledged or lost.
@@ -114,7 +116,7 @@ pub fn is_waiting_empty(core: &Core, stage: StageNo) -> bool
     requires stands { Stands core.now }
     ensures { result ≡ is_empty (waiting core.now.topology core.now.journal.steps stage) }
 {
-    is_queue_empty(&core.waiting, stage.0 as usize)
+    is_buffer_empty(&core.waiting, stage.0 as usize)
 }
 
 /// Whether nothing stands in the stage's inbox.
@@ -139,6 +141,16 @@ pub fn is_gathered_empty(core: &Core, stage: StageNo) -> bool
     ensures { result ≡ is_empty (gathered_in core.now.topology core.now.journal.steps stage) }
 {
     has_none_open(&core.batchers, stage.0 as usize)
+}
+
+/// Whether nothing waits in the buffer, or it is not there.
+fn is_buffer_empty(buffers: &[Buffer<u32>], at: usize) -> bool
+    ensures { result ≡ is_empty (units_in (slice_get buffers.now at)) }
+{
+    match buffers.get(at) {
+        Some(buffer) => buffer.is_empty(),
+        None => true,
+    }
 }
 
 /// Whether the queue is empty or is not there.

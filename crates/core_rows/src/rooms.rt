@@ -3,14 +3,14 @@
 ghost use Rattle.std.specs.Prelude.{◌≡◌, ◌&&◌, ◌||◌, not, Some, length, slice_get, nat_lt};
 ghost use Rattle.pipe_types.specs.Stages.{spec_of};
 ghost use Rattle.pipe_model.specs.{Flow.{room, waiting}, Legal.{has_room, feeds_batchers}};
-ghost use Rattle.core_tables.specs.Tables.{items_in};
+ghost use Rattle.core_waits.specs.Waits.{units_in};
 ghost use Rattle.core_state.specs.Stands.{Stands};
 ghost use Rattle.core_rows.specs.Rows.{open_on};
 
 use core_state::Core;
 use pipe_types::numbers::StageNo;
 use pipe_types::topology::StageSpec;
-use std::collections::VecDeque;
+use stage_buffer::Buffer;
 
 /// Whether the stage sends to no batchers, or they have asked for more than waits in it.
 pub(crate) fn is_passing(core: &Core, spec: &StageSpec) -> bool
@@ -38,12 +38,12 @@ pub fn waiting_len(core: &Core, stage: StageNo) -> usize
     queue_len(&core.waiting, stage.0 as usize)
 }
 
-/// How many units stand in the queue, and 0 past the end of the table.
-fn queue_len(queues: &[VecDeque<(u32, u32)>], at: usize) -> usize
-    ensures { result ≡ length (items_in (slice_get queues.now at)) }
+/// How many units wait in the buffer, and 0 past the end of the column.
+fn queue_len(buffers: &[Buffer<u32>], at: usize) -> usize
+    ensures { result ≡ length (units_in (slice_get buffers.now at)) }
 {
-    match queues.get(at) {
-        Some(queue) => queue.len(),
+    match buffers.get(at) {
+        Some(buffer) => buffer.len() as usize,
         None => 0,
     }
 }

@@ -39,6 +39,8 @@ use Rattle.pipe_types.specs.declared.topology.RestartLimit.{RestartLimit as Limi
 use Rattle.restart_core.specs.Restarts.{RestartLimit, Remembers}
 use Rattle.core_state.specs.Begun.{new_stage, new_post, no_sub, batches_of, no_batches, slots_of, children_of, no_children, unmade}
 use Rattle.core_state.specs.AreNew.{AreNew}
+use Rattle.core_waits.specs.Waits.{new_for, no_shape}
+use Rattle.core_waits.proofs.New.{none_wait, shape_is, as_many}
 use Rattle.core_state.proofs.FirstPairs.{feeding, stands_at}
 
 -- an element of a row of equal ones
@@ -158,7 +160,7 @@ new_sizes topology tables journal places settled producers contents batches legs
       stages = ap length x.stages ∙ (length-replicate (n + 1) _ ∙ one);
       posts = ap length x.posts ∙ (length-replicate ((n + 1) * 16) _ ∙ ap (λ m. m * 16) one);
       came = ap length x.came ∙ (length-replicate ((n + 1) * 16) _ ∙ ap (λ m. m * 16) one);
-      waiting = x.waiting_len ∙ one;
+      waiting = as_many tables.waiting.items topology.stages x.waiting;
       inboxes = x.inboxes_len ∙ one;
       chunks = x.chunks_len ∙ one;
       batchers = ap length x.batchers ∙ ap suc (length-map topology.stages batches_of);
@@ -176,6 +178,9 @@ new_settings : (topology : Topology) (tables : Tables) (journal : Recorded) (pla
     → IsSound topology → AreNew topology tables → AreSet topology (begin_with topology tables journal places settled producers contents batches legs alloc)
 new_settings topology tables journal places settled producers contents batches legs alloc sound x =
     record {
+      waiting = λ s spec e.
+          shape_is tables.waiting.items s.0 (new_for spec)
+          (ap (λ ws. slice_get ws s.0) x.waiting ∙ behind new_for ([], no_shape) topology.stages s.0 spec (t.within s spec e).0 (stands_at topology s spec t e));
       batchers = λ s spec held e at.
           let same : Some held ≡ Some (batches_of spec) = sym at ∙ (ap (λ bs. slice_get bs s.0) x.batchers ∙ behind batches_of no_batches topology.stages s.0 spec (t.within s spec e).0 (stands_at topology s spec t e)) in
           let is : held ≡ batches_of spec = cc in
@@ -232,7 +237,7 @@ new_stands topology tables journal places settled producers contents batches leg
           posts = λ s slot within low. ap (λ rows. slice_get rows (post_at s.0 slot)) x.posts ∙ all_same ((length topology.stages + 1) * 16) (post_at s.0 slot) new_post (omega (arith, within, low));
           came = λ s slot within low. ap (λ subs. slice_get subs (post_at s.0 slot)) x.came ∙ all_same ((length topology.stages + 1) * 16) (post_at s.0 slot) no_sub (omega (arith, within, low));
           subs = λ c p fed. x.subs c p ∙ no_count topology c p fed (first_live topology c p sound fed);
-          waiting = x.waiting;
+          waiting = λ s. none_wait tables.waiting.items topology.stages x.waiting s.0;
           inboxes = x.inboxes;
           chunks = x.chunks;
           opens = λ s. ap (λ bs. opens_in (slice_get bs s.0)) x.batchers ∙ none_open topology.stages s.0;

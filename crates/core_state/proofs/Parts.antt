@@ -19,6 +19,7 @@ use Rattle.message_ack.specs.Ends.{sent_in}
 use Rattle.core_tables.specs.declared.rows.BatchRow.{BatchRow}
 use Rattle.core_tables.specs.Tables.{queue_at, list_at}
 use Rattle.core_tables.specs.Rows.{post_at}
+use Rattle.core_waits.specs.Waits.{units_at, shape_at, shape_for}
 use Rattle.core_laws.specs.Columns.{running, stage_row, post_row, came, waiting_parts, open_batches, child_row, mark, content_row, sent_on, ends_in_progress}
 use Rattle.core_state.specs.declared.state.Core.{Core}
 use Rattle.pipe_model.specs.Standing.{gathered_in}
@@ -41,6 +42,7 @@ pub data Part : Type 0 where
   ContentsLen : Part
   BatchesLen : Part
   EndsLen : Part
+  WaitingSet : Part
   BatchersSet : Part
   ChildrenSet : Part
   RestartsSet : Part
@@ -79,6 +81,7 @@ Says ProducersLen core topology before = length core.producers.items ≡ accepte
 Says ContentsLen core topology before = length core.contents.items ≡ accepted before
 Says BatchesLen core topology before = length core.batches.items ≡ closed before
 Says EndsLen core topology before = length core.ends.items ≡ suc (length topology.stages)
+Says WaitingSet core topology before = (s : StageNo) (spec : StageSpec) → spec_of topology s ≡ Some spec → shape_at core.waiting.items s ≡ Some (shape_for spec)
 Says BatchersSet core topology before = (s : StageNo) (spec : StageSpec) (held : Batches) → spec_of topology s ≡ Some spec → slice_get core.batchers.items s.0 ≡ Some held → (held.batch_size ≡ spec.batch_size) × (held.batch_timeout ≡ spec.batch_timeout)
 Says ChildrenSet core topology before = (s : StageNo) (spec : StageSpec) (held : Slots) → spec_of topology s ≡ Some spec → has_role topology s is_supervisor_role ≡ true → slice_get core.children.items s.0 ≡ Some held → (held.mode ≡ spec.child) × (length held.slots ≡ spec.max)
 Says RestartsSet core topology before = (l : ℕ) → option_map limit_seen (slice_get core.restarts.items l) ≡ limit_at topology l
@@ -86,7 +89,7 @@ Says StagesAre core topology before = (s : StageNo) → s.0 ≤ length topology.
 Says PostsAre core topology before = (s : StageNo) (slot : ℕ) → s.0 ≤ length topology.stages → slot < 16 → slice_get core.posts.items (post_at s.0 slot) ≡ Some (post_row before s slot)
 Says CameAre core topology before = (s : StageNo) (slot : ℕ) → s.0 ≤ length topology.stages → slot < 16 → slice_get core.came.items (post_at s.0 slot) ≡ Some (came topology before s slot)
 Says SubsAre core topology before = (c p : StageNo) → feeds topology p c ≡ true → row_at core.subs c p ≡ Some (ledger_row topology before c p)
-Says WaitingAre core topology before = (s : StageNo) → queue_at core.waiting.items s ≡ waiting_parts topology before s
+Says WaitingAre core topology before = (s : StageNo) → units_at core.waiting.items s ≡ waiting_parts topology before s
 Says InboxesAre core topology before = (s : StageNo) → queue_at core.inboxes.items s ≡ inbox topology before s
 Says ChunksAre core topology before = (s : StageNo) → list_at core.chunks.items s ≡ running topology before s
 Says OpensAre core topology before = (s : StageNo) → opens_at core.batchers.items s ≡ open_batches before (gathered_in topology before s)
@@ -117,6 +120,7 @@ unchanged x ProducersLen = x.sized.producers
 unchanged x ContentsLen = x.sized.contents
 unchanged x BatchesLen = x.sized.batches
 unchanged x EndsLen = x.sized.ends
+unchanged x WaitingSet = x.set.waiting
 unchanged x BatchersSet = x.set.batchers
 unchanged x ChildrenSet = x.set.children
 unchanged x RestartsSet = x.set.restarts
@@ -161,7 +165,7 @@ fields_of {core} {topology} {before} says =
             batches = says BatchesLen;
             ends = says EndsLen;
           };
-      set = record { batchers = says BatchersSet; children = says ChildrenSet; restarts = says RestartsSet };
+      set = record { waiting = says WaitingSet; batchers = says BatchersSet; children = says ChildrenSet; restarts = says RestartsSet };
       stages = says StagesAre;
       posts = says PostsAre;
       came = says CameAre;

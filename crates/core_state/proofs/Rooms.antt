@@ -3,7 +3,6 @@ use Rattle.std.proofs.Common.{◌≡◌, ℕ, ◌+◌, ◌≤◌, ◌∷◌, len
 use Rattle.std.specs.Prelude.{vec_capacity, ◌==◌}
 use Rattle.std.specs.declared.alloc.Global.{Global}
 use Rattle.std.specs.declared.vec.Vec.{Vec}
-use Rattle.std.specs.declared.collections.VecDeque.{VecDeque}
 use Rattle.pipe_types.specs.declared.message.Outcome.{Outcome}
 use Rattle.pipe_types.specs.declared.numbers.StageNo.{StageNo}
 use Rattle.pipe_types.specs.declared.message.Place.{Place}
@@ -20,7 +19,9 @@ use Rattle.pipe_model.specs.Legal.{allows, has_role, is_batch_processor_role}
 use Rattle.pipe_model.specs.Posts.{is_out, puts_out}
 use Rattle.stage_laws.proofs.Records.{booked_step}
 use Rattle.core_tables.specs.declared.rows.ContentRow.{ContentRow}
-use Rattle.core_tables.specs.Tables.{list_at, spare_at, room_at}
+use Rattle.core_tables.specs.Tables.{list_at, room_at}
+use Rattle.core_waits.specs.Waits.{free_at}
+use Rattle.stage_buffer.specs.Waiting.{Waiting}
 use Rattle.core_laws.proofs.Due.{due_within, end_due}
 use Rattle.core_laws.proofs.Lawful.{legal_after}
 use Rattle.core_laws.proofs.TakenBatches.{size_kept, out_before, no_job}
@@ -85,7 +86,7 @@ pub room_after : (core new : Core) (step : Step) → Holds core → allows core.
     → due_steps core.topology (step ∷ core.journal.steps) ≤ new.journal.spare
     → vec_capacity new.places ≡ vec_capacity core.places → vec_capacity new.settled ≡ vec_capacity core.settled
     → vec_capacity new.producers ≡ vec_capacity core.producers → vec_capacity new.contents ≡ vec_capacity core.contents
-    → ((s : StageNo) → has_batchers_in (spec_of core.topology s) ≡ true → length (list_at new.chunks.items s) ≤ spare_at new.waiting.items s)
+    → ((s : StageNo) → has_batchers_in (spec_of core.topology s) ≡ true → length (list_at new.chunks.items s) ≤ free_at new.waiting.items s)
     → new.ends ≡ core.ends
     → Roomy new core.topology (step ∷ core.journal.steps)
 room_after core new step x allowed none due places settled producers contents queues ends =
@@ -109,8 +110,8 @@ pub room_beside : (core new : Core) (step : Step) → Holds core → allows core
 room_beside core new step x allowed none due places settled producers contents chunks waiting ends =
     room_after core new step x allowed none due (ap (λ v. vec_capacity v) places) (ap (λ v. vec_capacity v) settled) (ap (λ v. vec_capacity v) producers) (ap (λ v. vec_capacity v) contents)
     (λ s h.
-    subst (λ (v : Vec (Vec ℕ Global) Global). length (list_at v.items s) ≤ spare_at new.waiting.items s) (sym chunks)
-    (subst (λ (v : Vec (VecDeque (ℕ × ℕ) Global) Global). length (list_at core.chunks.items s) ≤ spare_at v.items s) (sym waiting) (x.room.queues s h)))
+    subst (λ (v : Vec (Vec ℕ Global) Global). length (list_at v.items s) ≤ free_at new.waiting.items s) (sym chunks)
+    (subst (λ (v : Vec (Waiting ℕ) Global). length (list_at core.chunks.items s) ≤ free_at v.items s) (sym waiting) (x.room.queues s h)))
     ends
 
 -- where the journal alone made room

@@ -3,7 +3,6 @@ use Rattle.std.proofs.Common.{◌≡◌, ◌≢◌, ℕ, ◌<◌, ◌≤◌, Lis
 use Rattle.std.specs.Prelude.{slice_get, ◌==◌, ◌⊎◌, vec_capacity}
 use Rattle.std.specs.declared.alloc.Global.{Global}
 use Rattle.std.specs.declared.vec.Vec.{Vec}
-use Rattle.std.specs.declared.collections.VecDeque.{VecDeque}
 use Rattle.pipe_types.specs.declared.numbers.StageNo.{StageNo}
 use Rattle.pipe_types.specs.declared.topology.Topology.{Topology}
 use Rattle.pipe_types.specs.declared.message.Place.{Place}
@@ -11,29 +10,30 @@ use Rattle.pipe_model.specs.History.{History}
 use Rattle.pipe_model.specs.Legal.{is_legal, owed}
 use Rattle.pipe_journal.specs.Recorded.{Recorded}
 use Rattle.core_tables.specs.declared.rows.ContentRow.{ContentRow}
-use Rattle.core_tables.specs.Tables.{items_in, queue_at, spare_at, spare_in}
-use Rattle.core_tables.proofs.Tables.{same_or_other, get-set_same, get-set_other, queue-set_same, queue-set_other}
+use Rattle.core_waits.specs.Waits.{units_at, shape_at, free_at}
+use Rattle.stage_buffer.specs.Waiting.{Waiting}
 use Rattle.core_state.specs.declared.state.Core.{Core}
 use Rattle.core_state.specs.Room.{Roomy}
 use Rattle.core_state.specs.Stands.{Fields, KeepsLog, Stands}
 use Rattle.core_state.proofs.Steps.{log_roomier}
-use Rattle.core_state.proofs.Parts.{Part, ContentsAre, ContentsLen, PlacesAre, PlacesLen, ProducersAre, ProducersLen, SettledAre, SettledLen, WaitingAre, WaitingLen, Says, unchanged, fields_of}
+use Rattle.core_state.proofs.Parts.{Part, ContentsAre, ContentsLen, PlacesAre, PlacesLen, ProducersAre, ProducersLen, SettledAre, SettledLen, WaitingAre, WaitingLen, WaitingSet, Says, unchanged, fields_of}
 
 -- tables with the same rows, and no less room
-pub record SameRows (core : Core) (p : Vec Place Global) (m : Vec ℕ Global) (r : Vec StageNo Global) (c : Vec ContentRow Global) (w : Vec (VecDeque (ℕ × ℕ) Global) Global) : Type 0 where
+pub record SameRows (core : Core) (p : Vec Place Global) (m : Vec ℕ Global) (r : Vec StageNo Global) (c : Vec ContentRow Global) (w : Vec (Waiting ℕ) Global) : Type 0 where
   pub places : p.items ≡ core.places.items
   pub settled : m.items ≡ core.settled.items
   pub producers : r.items ≡ core.producers.items
   pub contents : c.items ≡ core.contents.items
-  pub queues : (s : StageNo) → queue_at w.items s ≡ queue_at core.waiting.items s
+  pub queues : (s : StageNo) → units_at w.items s ≡ units_at core.waiting.items s
+  pub shapes : (s : StageNo) → shape_at w.items s ≡ shape_at core.waiting.items s
   pub queue_count : length w.items ≡ length core.waiting.items
   pub places_room : vec_capacity core.places ≤ vec_capacity p
   pub settled_room : vec_capacity core.settled ≤ vec_capacity m
   pub producers_room : vec_capacity core.producers ≤ vec_capacity r
   pub contents_room : vec_capacity core.contents ≤ vec_capacity c
-  pub queues_room : (s : StageNo) → spare_at core.waiting.items s ≤ spare_at w.items s
+  pub queues_room : (s : StageNo) → free_at core.waiting.items s ≤ free_at w.items s
 
-same_fields : (core : Core) (topology : Topology) (before : History) (p : Vec Place Global) (m : Vec ℕ Global) (r : Vec StageNo Global) (c : Vec ContentRow Global) (w : Vec (VecDeque (ℕ × ℕ) Global) Global) (j : Recorded)
+same_fields : (core : Core) (topology : Topology) (before : History) (p : Vec Place Global) (m : Vec ℕ Global) (r : Vec StageNo Global) (c : Vec ContentRow Global) (w : Vec (Waiting ℕ) Global) (j : Recorded)
     → Fields core topology before → SameRows core p m r c w → Fields (record core { journal = j; places = p; settled = m; producers = r; contents = c; waiting = w }) topology before
 same_fields core topology before p m r c w j x same = fields_of says
   where
@@ -43,6 +43,7 @@ same_fields core topology before p m r c w j x same = fields_of says
     says SettledLen = ap length same.settled ∙ x.sized.settled
     says ProducersLen = ap length same.producers ∙ x.sized.producers
     says ContentsLen = ap length same.contents ∙ x.sized.contents
+    says WaitingSet = λ s spec at. same.shapes s ∙ x.set.waiting s spec at
     says WaitingAre = λ s. same.queues s ∙ x.waiting s
     says PlacesAre = λ i. ap (λ xs. slice_get xs i) same.places ∙ x.places i
     says SettledAre = λ i below. ap (λ xs. slice_get xs i) same.settled ∙ x.settled i below
@@ -50,7 +51,7 @@ same_fields core topology before p m r c w j x same = fields_of says
     says ContentsAre = λ i. ap (λ xs. slice_get xs i) same.contents ∙ x.contents i
     says it = unchanged x it
 
-same_room : (core : Core) (topology : Topology) (before : History) (p : Vec Place Global) (m : Vec ℕ Global) (r : Vec StageNo Global) (c : Vec ContentRow Global) (w : Vec (VecDeque (ℕ × ℕ) Global) Global) (j : Recorded)
+same_room : (core : Core) (topology : Topology) (before : History) (p : Vec Place Global) (m : Vec ℕ Global) (r : Vec StageNo Global) (c : Vec ContentRow Global) (w : Vec (Waiting ℕ) Global) (j : Recorded)
     → Roomy core topology before → SameRows core p m r c w → core.journal.spare ≤ j.spare → Roomy (record core { journal = j; places = p; settled = m; producers = r; contents = c; waiting = w }) topology before
 same_room core topology before p m r c w j x same spare =
     record {
@@ -66,7 +67,7 @@ same_room core topology before p m r c w j x same spare =
       ends = x.ends;
     }
 
-pub roomy : (core : Core) (p : Vec Place Global) (m : Vec ℕ Global) (r : Vec StageNo Global) (c : Vec ContentRow Global) (w : Vec (VecDeque (ℕ × ℕ) Global) Global) (j : Recorded)
+pub roomy : (core : Core) (p : Vec Place Global) (m : Vec ℕ Global) (r : Vec StageNo Global) (c : Vec ContentRow Global) (w : Vec (Waiting ℕ) Global) (j : Recorded)
     → Stands core → SameRows core p m r c w → j.steps ≡ core.journal.steps → core.journal.spare ≤ j.spare → j.acked.rows ≡ core.journal.acked.rows → core.journal.acked.room ≤ j.acked.room → Stands (record core { journal = j; places = p; settled = m; producers = r; contents = c; waiting = w })
 roomy core p m r c w j x same steps spare rows log_room =
     record {
@@ -82,26 +83,3 @@ roomy core p m r c w j x same steps spare rows log_room =
           };
       unowed = ap (owed core.topology) steps ∙ x.unowed;
     }
-
--- a queue with more room
-pub same_queue : (queues : List (VecDeque (ℕ × ℕ) Global)) (s : StageNo) (q r : VecDeque (ℕ × ℕ) Global) → s.0 < length queues → slice_get queues s.0 ≡ Some q → r.items ≡ q.items
-    → (t : StageNo) → queue_at (set queues s.0 r) t ≡ queue_at queues t
-same_queue queues s q r within was same t = by (same_or_other s.0 t.0)
-  where
-    by : (((s.0 == t.0) ≡ true) × (s.0 ≡ t.0)) ⊎ (((s.0 == t.0) ≡ false) × (s.0 ≢ t.0)) → queue_at (set queues s.0 r) t ≡ queue_at queues t
-    by (inl here) = queue-set_same queues s.0 r t within (sym here.1) ∙ (same ∙ (sym (ap items_in was) ∙ ap (λ n. items_in (slice_get queues n)) here.1))
-    by (inr other) = queue-set_other queues s.0 r t (λ e. other.1 (sym e))
-
--- and no less room in any
-pub more_queue : (queues : List (VecDeque (ℕ × ℕ) Global)) (s : StageNo) (q r : VecDeque (ℕ × ℕ) Global) → s.0 < length queues → slice_get queues s.0 ≡ Some q → spare_in (Some q) ≤ spare_in (Some r)
-    → (t : StageNo) → spare_at queues t ≤ spare_at (set queues s.0 r) t
-more_queue queues s q r within was more t = by (same_or_other s.0 t.0)
-  where
-    by : (((s.0 == t.0) ≡ true) × (s.0 ≡ t.0)) ⊎ (((s.0 == t.0) ≡ false) × (s.0 ≢ t.0)) → spare_at queues t ≤ spare_at (set queues s.0 r) t
-    by (inl here) =
-        let now : spare_at (set queues s.0 r) t ≡ spare_in (Some r) = ap spare_in (ap (slice_get (set queues s.0 r)) (sym here.1) ∙ get-set_same queues s.0 r within) in
-        let old : spare_at queues t ≡ spare_in (Some q) = ap (λ n. spare_in (slice_get queues n)) (sym here.1) ∙ ap spare_in was in
-        omega (arith, now, old, more)
-    by (inr other) =
-        let now : spare_at (set queues s.0 r) t ≡ spare_at queues t = ap spare_in (get-set_other queues s.0 t.0 r (λ e. other.1 (sym e))) in
-        omega (arith, now)

@@ -23,6 +23,7 @@ use Rattle.core_tables.specs.declared.rows.Totals.{Totals}
 use Rattle.core_tables.specs.declared.rows.BatchRow.{BatchRow}
 use Rattle.core_tables.specs.Tables.{queue_at, list_at}
 use Rattle.core_tables.specs.Rows.{post_at}
+use Rattle.core_waits.specs.Waits.{units_at, shape_at, shape_for}
 use Rattle.core_laws.specs.Columns.{running, stage_row, post_row, came, waiting_parts, open_batches, child_row, mark, content_row, sent_on, ends_in_progress}
 use Rattle.core_laws.specs.Due.{booked}
 use Rattle.pipe_journal.specs.Recorded.{AckLog}
@@ -86,8 +87,10 @@ pub record AreSized (topology : Topology) (before : History) (core : Core) : Typ
   pub batches : length core.batches.items ≡ closed before
   pub ends : length core.ends.items ≡ suc (length topology.stages)
 
--- a batcher's limits, and a supervisor's mode and slots, are those of its stage; the limits on restarts are the topology's
+-- a buffer's parts, size and end, a batcher's limits, and a supervisor's mode and slots, are those of its stage; the limits on
+-- restarts are the topology's
 pub record AreSet (topology : Topology) (core : Core) : Type 0 where
+  pub waiting : (s : StageNo) (spec : StageSpec) → spec_of topology s ≡ Some spec → shape_at core.waiting.items s ≡ Some (shape_for spec)
   pub batchers : (s : StageNo) (spec : StageSpec) (held : Batches) → spec_of topology s ≡ Some spec → slice_get core.batchers.items s.0 ≡ Some held
       → (held.batch_size ≡ spec.batch_size) × (held.batch_timeout ≡ spec.batch_timeout)
   pub children : (s : StageNo) (spec : StageSpec) (held : Slots) → spec_of topology s ≡ Some spec → has_role topology s is_supervisor_role ≡ true
@@ -102,7 +105,7 @@ pub record Fields (core : Core) (topology : Topology) (before : History) : Type 
   pub posts : (s : StageNo) (slot : ℕ) → s.0 ≤ length topology.stages → slot < 16 → slice_get core.posts.items (post_at s.0 slot) ≡ Some (post_row before s slot)
   pub came : (s : StageNo) (slot : ℕ) → s.0 ≤ length topology.stages → slot < 16 → slice_get core.came.items (post_at s.0 slot) ≡ Some (came topology before s slot)
   pub subs : (c p : StageNo) → feeds topology p c ≡ true → row_at core.subs c p ≡ Some (ledger_row topology before c p)
-  pub waiting : (s : StageNo) → queue_at core.waiting.items s ≡ waiting_parts topology before s
+  pub waiting : (s : StageNo) → units_at core.waiting.items s ≡ waiting_parts topology before s
   pub inboxes : (s : StageNo) → queue_at core.inboxes.items s ≡ inbox topology before s
   pub chunks : (s : StageNo) → list_at core.chunks.items s ≡ running topology before s
   pub opens : (s : StageNo) → opens_at core.batchers.items s ≡ open_batches before (gathered_in topology before s)

@@ -10,6 +10,7 @@ use pipe_types::message::Outcome;
 use pipe_types::numbers::{StageNo, SubNo};
 use pipe_types::topology::Topology;
 use restart_core::Restarts;
+use stage_buffer::Buffer;
 use stage_subs::Subs;
 use std::alloc::Global;
 use std::collections::VecDeque;
@@ -32,8 +33,8 @@ pub struct Core {
     pub came: Vec<SubNo>,
     /// By pair.
     pub subs: Subs,
-    /// The partition and the number of each unit that waits in a stage; by stage.
-    pub waiting: Vec<VecDeque<(u32, u32)>>,
+    /// The number of each unit that waits in a stage, in the ring of its partition; by stage.
+    pub waiting: Vec<Buffer<u32>>,
     /// The units sent to a stage and not taken; by stage.
     pub inboxes: Vec<VecDeque<(SubNo, u32)>>,
     /// The messages that run in a stage; by stage.

@@ -3,7 +3,6 @@ use Rattle.std.proofs.Common.{◌≡◌, ℕ, ◌+◌, ◌≤◌, List, [], ◌�
 use Rattle.std.specs.Prelude.{if◌then◌else◌, ◌==◌, ◌&&◌, vec_capacity}
 use Rattle.std.specs.declared.alloc.Global.{Global}
 use Rattle.std.specs.declared.vec.Vec.{Vec}
-use Rattle.std.specs.declared.collections.VecDeque.{VecDeque}
 use Rattle.pipe_types.specs.declared.numbers.StageNo.{StageNo}
 use Rattle.pipe_types.specs.declared.numbers.SubNo.{SubNo}
 use Rattle.pipe_types.specs.declared.topology.Topology.{Topology}
@@ -23,16 +22,18 @@ use Rattle.pipe_model.specs.Work.{taken_units}
 use Rattle.pipe_laws.proofs.Tests.{and_left, both, same_stage-self, same_stage-true}
 use Rattle.pipe_laws.proofs.Allowed.{done_facts}
 use Rattle.pipe_laws.proofs.Busy.{two_roles}
-use Rattle.core_tables.specs.Tables.{list_at, queue_at, spare_at, room_at}
+use Rattle.core_tables.specs.Tables.{list_at, room_at}
 use Rattle.core_laws.specs.Columns.{closed_numbers}
 use Rattle.core_laws.specs.Due.{due_steps, taken_size}
 use Rattle.core_laws.proofs.Due.{answer_due}
+use Rattle.core_waits.specs.Waits.{shape_at, shape_for, units_at, free_at}
+use Rattle.stage_buffer.specs.Waiting.{Waiting}
 use Rattle.core_state.specs.declared.state.Core.{Core}
 use Rattle.core_state.specs.Room.{Roomy}
 use Rattle.core_state.specs.Stands.{Fields, Holds, Stands}
 use Rattle.core_state.proofs.Rooms.{room_due, rows_kept, same_rows, ends_kept}
 use Rattle.core_takes.proofs.TakenBatch.{first_taken}
-use Rattle.core_state.proofs.Parts.{Part, ChunksAre, ChunksLen, EndsLen, WaitingAre, WaitingLen, Says, unchanged, fields_of}
+use Rattle.core_state.proofs.Parts.{Part, ChunksAre, ChunksLen, EndsLen, WaitingAre, WaitingLen, WaitingSet, Says, unchanged, fields_of}
 
 pub if_other : {A : Type 0} (b : Bool) (x y : A) → b ≡ false → (if b then x else y) ≡ y
 if_other true x y e = cc
@@ -51,13 +52,13 @@ done_due core s replies x allowed =
     answer_due core.topology core.journal.steps (Done s replies) s 0 x.sound x.legal (λ p. refl) (both (same_stage s s) (0 == 0) (same_stage-self s) refl) out (λ t h. h)
 
 -- an answer leaves nothing that runs in the stage, and the queues of the others alone
-pub answer_queues : (core : Core) (s : StageNo) (chunks : List (Vec ℕ Global)) (waiting : List (VecDeque (ℕ × ℕ) Global)) → Holds core
+pub answer_queues : (core : Core) (s : StageNo) (chunks : List (Vec ℕ Global)) (waiting : List (Waiting ℕ)) → Holds core
     → ((t : StageNo) → list_at chunks t ≡ (if s.0 == t.0 then [] else list_at core.chunks.items t))
-    → ((t : StageNo) → (s.0 == t.0) ≡ false → spare_at waiting t ≡ spare_at core.waiting.items t)
-    → (t : StageNo) → has_batchers_in (spec_of core.topology t) ≡ true → length (list_at chunks t) ≤ spare_at waiting t
+    → ((t : StageNo) → (s.0 == t.0) ≡ false → free_at waiting t ≡ free_at core.waiting.items t)
+    → (t : StageNo) → has_batchers_in (spec_of core.topology t) ≡ true → length (list_at chunks t) ≤ free_at waiting t
 answer_queues core s chunks waiting x cleared rooms t h = by (s.0 == t.0) refl
   where
-    by : (b : Bool) → (s.0 == t.0) ≡ b → length (list_at chunks t) ≤ spare_at waiting t
+    by : (b : Bool) → (s.0 == t.0) ≡ b → length (list_at chunks t) ≤ free_at waiting t
     by true here =
         let none : list_at chunks t ≡ [] = cleared t ∙ if_here (s.0 == t.0) [] (list_at core.chunks.items t) here in
         omega (arith, ap length none)
@@ -85,7 +86,7 @@ pub take_room : (core new : Core) (s : StageNo) (u : SubNo) (k most : ℕ) → H
     → 1089 ≤ core.journal.spare → core.journal.spare ≤ new.journal.spare + 1 → vec_capacity new.places ≡ vec_capacity core.places
     → new.settled ≡ core.settled → new.producers ≡ core.producers → new.contents ≡ core.contents → new.waiting ≡ core.waiting → new.ends ≡ core.ends
     → ((t : StageNo) → (s.0 == t.0) ≡ false → list_at new.chunks.items t ≡ list_at core.chunks.items t)
-    → length (list_at new.chunks.items s) ≤ most → (has_batchers_in (spec_of core.topology s) ≡ true → most ≤ spare_at core.waiting.items s)
+    → length (list_at new.chunks.items s) ≤ most → (has_batchers_in (spec_of core.topology s) ≡ true → most ≤ free_at core.waiting.items s)
     → Roomy new core.topology (Take s u k ∷ core.journal.steps)
 take_room core new s u k most x processes allowed many spare places settled producers contents waiting ends chunks few behind =
     record {
@@ -93,16 +94,16 @@ take_room core new s u k most x processes allowed many spare places settled prod
       rows =
           same_rows _ core.places new.places core.settled new.settled core.producers new.producers core.contents new.contents (rows_kept core (Take s u k) x allowed (λ t n e. cc))
           places (ap (λ v. vec_capacity v) settled) (ap (λ v. vec_capacity v) producers) (ap (λ v. vec_capacity v) contents);
-      queues = λ t h. subst (λ (w : Vec (VecDeque (ℕ × ℕ) Global) Global). length (list_at new.chunks.items t) ≤ spare_at w.items t) (sym waiting) (queue t (s.0 == t.0) refl h);
+      queues = λ t h. subst (λ (w : Vec (Waiting ℕ) Global). length (list_at new.chunks.items t) ≤ free_at w.items t) (sym waiting) (queue t (s.0 == t.0) refl h);
       ends = λ t role out.
           subst (λ (v : Vec (Vec Outcome Global) Global). taken_size core.topology (Take s u k ∷ core.journal.steps) t ≤ room_at v.items t) (sym ends)
           (ends_kept core (Take s u k) t x role (take_elsewhere core s t u k processes role) out);
     }
   where
-    queue : (t : StageNo) (b : Bool) → (s.0 == t.0) ≡ b → has_batchers_in (spec_of core.topology t) ≡ true → length (list_at new.chunks.items t) ≤ spare_at core.waiting.items t
+    queue : (t : StageNo) (b : Bool) → (s.0 == t.0) ≡ b → has_batchers_in (spec_of core.topology t) ≡ true → length (list_at new.chunks.items t) ≤ free_at core.waiting.items t
     queue t true is h =
         let at : s ≡ t = same_stage-true s t is in
-        subst (λ v. length (list_at new.chunks.items v) ≤ spare_at core.waiting.items v) at (omega (arith, few, behind (ap (λ v. has_batchers_in (spec_of core.topology v)) at ∙ h)))
+        subst (λ v. length (list_at new.chunks.items v) ≤ free_at core.waiting.items v) at (omega (arith, few, behind (ap (λ v. has_batchers_in (spec_of core.topology v)) at ∙ h)))
     queue t false other h = omega (arith, ap length (chunks t other), x.room.queues t h)
 
 -- A take of a batch
@@ -120,8 +121,8 @@ batch_room core new s u b x allowed many spare places settled producers contents
           same_rows _ core.places new.places core.settled new.settled core.producers new.producers core.contents new.contents (rows_kept core (Take s u 1) x allowed (λ t n e. cc))
           (ap (λ v. vec_capacity v) places) (ap (λ v. vec_capacity v) settled) (ap (λ v. vec_capacity v) producers) (ap (λ v. vec_capacity v) contents);
       queues = λ t h.
-          subst (λ (v : Vec (Vec ℕ Global) Global). length (list_at v.items t) ≤ spare_at new.waiting.items t) (sym chunks)
-          (subst (λ (w : Vec (VecDeque (ℕ × ℕ) Global) Global). length (list_at core.chunks.items t) ≤ spare_at w.items t) (sym waiting) (x.room.queues t h));
+          subst (λ (v : Vec (Vec ℕ Global) Global). length (list_at v.items t) ≤ free_at new.waiting.items t) (sym chunks)
+          (subst (λ (w : Vec (Waiting ℕ) Global). length (list_at core.chunks.items t) ≤ free_at w.items t) (sym waiting) (x.room.queues t h));
       ends = λ t role out. subst (λ (v : Vec (Vec Outcome Global) Global). taken_size core.topology (Take s u 1 ∷ core.journal.steps) t ≤ room_at v.items t) (sym ends) (of_stage t role out (same_stage t s) refl);
     }
   where
@@ -139,16 +140,17 @@ batch_room core new s u b x allowed many spare places settled producers contents
 
 -- Where lists and queues have more room, the core stands as it did
 
-pub record MoreRoom (core : Core) (c : Vec (Vec ℕ Global) Global) (w : Vec (VecDeque (ℕ × ℕ) Global) Global) (e : Vec (Vec Outcome Global) Global) : Type 0 where
+pub record MoreRoom (core : Core) (c : Vec (Vec ℕ Global) Global) (w : Vec (Waiting ℕ) Global) (e : Vec (Vec Outcome Global) Global) : Type 0 where
   pub chunks : (t : StageNo) → list_at c.items t ≡ list_at core.chunks.items t
   pub chunks_len : length c.items ≡ length core.chunks.items
-  pub queues : (t : StageNo) → queue_at w.items t ≡ queue_at core.waiting.items t
+  pub queues : (t : StageNo) → units_at w.items t ≡ units_at core.waiting.items t
+  pub shapes : (t : StageNo) → shape_at w.items t ≡ shape_at core.waiting.items t
   pub queues_len : length w.items ≡ length core.waiting.items
-  pub queues_room : (t : StageNo) → spare_at core.waiting.items t ≤ spare_at w.items t
+  pub queues_room : (t : StageNo) → free_at core.waiting.items t ≤ free_at w.items t
   pub ends_len : length e.items ≡ length core.ends.items
   pub ends_room : (t : StageNo) → room_at core.ends.items t ≤ room_at e.items t
 
-more_fields : (core : Core) (c : Vec (Vec ℕ Global) Global) (w : Vec (VecDeque (ℕ × ℕ) Global) Global) (e : Vec (Vec Outcome Global) Global) (topology : Topology) (before : History)
+more_fields : (core : Core) (c : Vec (Vec ℕ Global) Global) (w : Vec (Waiting ℕ) Global) (e : Vec (Vec Outcome Global) Global) (topology : Topology) (before : History)
     → Fields core topology before → MoreRoom core c w e → Fields (record core { chunks = c; waiting = w; ends = e }) topology before
 more_fields core c w e topology before x more = fields_of says
   where
@@ -156,11 +158,12 @@ more_fields core c w e topology before x more = fields_of says
     says WaitingLen = more.queues_len ∙ x.sized.waiting
     says ChunksLen = more.chunks_len ∙ x.sized.chunks
     says EndsLen = more.ends_len ∙ x.sized.ends
+    says WaitingSet = λ t spec e. more.shapes t ∙ x.set.waiting t spec e
     says WaitingAre = λ t. more.queues t ∙ x.waiting t
     says ChunksAre = λ t. more.chunks t ∙ x.chunks t
     says it = unchanged x it
 
-pub more_stands : (core : Core) (c : Vec (Vec ℕ Global) Global) (w : Vec (VecDeque (ℕ × ℕ) Global) Global) (e : Vec (Vec Outcome Global) Global)
+pub more_stands : (core : Core) (c : Vec (Vec ℕ Global) Global) (w : Vec (Waiting ℕ) Global) (e : Vec (Vec Outcome Global) Global)
     → Stands core → MoreRoom core c w e → Stands (record core { chunks = c; waiting = w; ends = e })
 more_stands core c w e x more =
     record {
@@ -188,20 +191,22 @@ chunks_stand core c x same len =
       chunks = same;
       chunks_len = len;
       queues = λ t. refl;
+      shapes = λ t. refl;
       queues_len = refl;
       queues_room = λ t. omega arith;
       ends_len = refl;
       ends_room = λ t. omega arith;
     })
 
-pub queues_stand : (core : Core) (w : Vec (VecDeque (ℕ × ℕ) Global) Global) → Stands core → ((t : StageNo) → queue_at w.items t ≡ queue_at core.waiting.items t) → length w.items ≡ length core.waiting.items
-    → ((t : StageNo) → spare_at core.waiting.items t ≤ spare_at w.items t) → Stands (record core { waiting = w })
-queues_stand core w x same len room =
+pub queues_stand : (core : Core) (w : Vec (Waiting ℕ) Global) → Stands core → ((t : StageNo) → units_at w.items t ≡ units_at core.waiting.items t) → ((t : StageNo) → shape_at w.items t ≡ shape_at core.waiting.items t) → length w.items ≡ length core.waiting.items
+    → ((t : StageNo) → free_at core.waiting.items t ≤ free_at w.items t) → Stands (record core { waiting = w })
+queues_stand core w x same shapes len room =
     more_stands core core.chunks w core.ends x
     (record {
       chunks = λ t. refl;
       chunks_len = refl;
       queues = same;
+      shapes = shapes;
       queues_len = len;
       queues_room = room;
       ends_len = refl;
@@ -215,6 +220,7 @@ ends_stand core e x len room =
       chunks = λ t. refl;
       chunks_len = refl;
       queues = λ t. refl;
+      shapes = λ t. refl;
       queues_len = refl;
       queues_room = λ t. omega arith;
       ends_len = len;

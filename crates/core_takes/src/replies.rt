@@ -1,20 +1,23 @@
 //! What the replies to a chunk do to the tables.
 
 ghost use Rattle.std.specs.Prelude.{◌≡◌, ℕ, suc, ◌∷◌, [], ◌+◌, ◌<◌, ◌≤◌, ◌^◌, ◌++◌, length, All, Some, false, IfSome, option_map, slice_get, if◌then◌else◌, ◌==◌, true, OnOk, vec_capacity};
-ghost use Rattle.std.specs.VecDeque.{deque_len, deque_capacity};
 ghost use Rattle.pipe_types.specs.declared.numbers.StageNo.{StageNo as Stage};
 ghost use Rattle.pipe_model.specs.{Content.{has_crash}, Flow.{answered, done}};
 ghost use Rattle.stage_subs.specs.Subs.{row_of, row_at, IsChanged};
-ghost use Rattle.core_tables.specs.{Answers.{done_as}, Tables.{queue_at, list_at, spare_at}};
+ghost use Rattle.stage_buffer.specs.Waiting.{KeepsShape};
+ghost use Rattle.core_waits.specs.Waits.{units_at, free, free_at, shape_at};
+ghost use Rattle.core_tables.specs.{Answers.{done_as}, Tables.{list_at}};
+ghost use Rattle.wait_laws.specs.Passed.{HasPart};
 ghost use Rattle.core_takes.specs.Replies.{passed_parts, ends, marked, noted, HasRow, handled_on, counted_on};
 
 use core_tables::place_table::PlaceTable;
 use core_tables::rows::ContentRow;
+use core_waits::{make_room, put};
 use pipe_types::message::{Outcome, Place, Reply};
 use pipe_types::numbers::{StageNo, SubNo};
+use stage_buffer::Buffer;
 use stage_subs::Subs;
 use std::alloc::AllocError;
-use std::collections::VecDeque;
 
 /// Where a reply leaves a message of the stage.
 fn replied(passes_on: bool, stage: StageNo, reply: &Reply) -> Place
@@ -126,9 +129,11 @@ fn note_one(contents: &mut Vec<ContentRow>, entry: u64, item: u32, reply: &Reply
 }
 
 /// Puts the messages that the replies pass on behind the others, each with its partition.
-fn pass_on(queue: &mut VecDeque<(u32, u32)>, by_partition: bool, replies: &[Reply])
-    requires { deque_len queue.old + length replies.now ≤ deque_capacity queue.old }
-    ensures { queue.new.items ≡ queue.old.items ++ passed_parts by_partition replies.now }
+fn pass_on(queue: &mut Buffer<u32>, by_partition: bool, replies: &[Reply])
+    requires parts { All (HasPart queue.old.parts by_partition) replies.now }
+    requires room { length replies.now ≤ free queue.old }
+    ensures units { queue.new.units ≡ queue.old.units ++ passed_parts by_partition replies.now }
+    ensures shape { KeepsShape queue.old queue.new }
 {
     for reply in replies {
         push_passed(queue, by_partition, reply);
@@ -143,29 +148,32 @@ fn part_of(by_partition: bool, batcher: u16) -> u32
 }
 
 /// Puts the message behind the others, where the reply passes it on.
-fn push_passed(queue: &mut VecDeque<(u32, u32)>, by_partition: bool, reply: &Reply)
-    requires { deque_len queue.old < deque_capacity queue.old }
-    ensures items { queue.new.items ≡ queue.old.items ++ passed_parts by_partition (reply.now ∷ []) }
-    ensures len { deque_len queue.new ≤ deque_len queue.old + 1 }
-    ensures capacity { deque_capacity queue.new ≡ deque_capacity queue.old }
+fn push_passed(queue: &mut Buffer<u32>, by_partition: bool, reply: &Reply)
+    requires part { HasPart queue.old.parts by_partition reply.now }
+    requires room { 1 ≤ free queue.old }
+    ensures units { queue.new.units ≡ queue.old.units ++ passed_parts by_partition (reply.now ∷ []) }
+    ensures shape { KeepsShape queue.old queue.new }
+    ensures rooms { free queue.old ≤ free queue.new + 1 }
 {
     if let Reply::Pass(message) = reply {
-        queue.push_back_reserved((part_of(by_partition, message.batcher), message.no.0));
+        put(queue, part_of(by_partition, message.batcher), message.no.0);
     }
 }
 
 /// Puts the messages that the replies pass on behind those that wait in the stage, where it passes messages on.
 pub(crate) fn queue_passed(
-    waiting: &mut Vec<VecDeque<(u32, u32)>>,
+    waiting: &mut Vec<Buffer<u32>>,
     stage: StageNo,
     passes_on: bool,
     by_partition: bool,
     replies: &[Reply],
 )
     requires within { stage.0 < length waiting.old.items }
-    requires room { passes_on ≡ true → length replies.now ≤ spare_at waiting.old.items stage }
-    ensures rooms { (s : Stage) → (stage.0 == s.0) ≡ false → spare_at waiting.new.items s ≡ spare_at waiting.old.items s }
-    ensures queued { (s : Stage) → queue_at waiting.new.items s ≡ (if passes_on then (if stage.0 == s.0 then queue_at waiting.old.items s ++ passed_parts by_partition replies.now else queue_at waiting.old.items s) else queue_at waiting.old.items s) }
+    requires parts { IfSome (shape_at waiting.old.items stage) (λ shape. All (HasPart shape.parts by_partition) replies.now) }
+    requires room { passes_on ≡ true → length replies.now ≤ free_at waiting.old.items stage }
+    ensures rooms { (s : Stage) → (stage.0 == s.0) ≡ false → free_at waiting.new.items s ≡ free_at waiting.old.items s }
+    ensures queued { (s : Stage) → units_at waiting.new.items s ≡ (if passes_on then (if stage.0 == s.0 then units_at waiting.old.items s ++ passed_parts by_partition replies.now else units_at waiting.old.items s) else units_at waiting.old.items s) }
+    ensures shapes { (s : Stage) → shape_at waiting.new.items s ≡ shape_at waiting.old.items s }
     ensures len { length waiting.new.items ≡ length waiting.old.items }
 {
     if passes_on {
@@ -174,55 +182,37 @@ pub(crate) fn queue_passed(
 }
 
 /// Puts the messages that the replies pass on behind those that wait in the stage.
-fn queue_all(
-    waiting: &mut Vec<VecDeque<(u32, u32)>>,
-    stage: StageNo,
-    by_partition: bool,
-    replies: &[Reply],
-)
+fn queue_all(waiting: &mut Vec<Buffer<u32>>, stage: StageNo, by_partition: bool, replies: &[Reply])
     requires within { stage.0 < length waiting.old.items }
-    requires room { length replies.now ≤ spare_at waiting.old.items stage }
-    ensures rooms { (s : Stage) → (stage.0 == s.0) ≡ false → spare_at waiting.new.items s ≡ spare_at waiting.old.items s }
-    ensures queued { (s : Stage) → queue_at waiting.new.items s ≡ (if stage.0 == s.0 then queue_at waiting.old.items s ++ passed_parts by_partition replies.now else queue_at waiting.old.items s) }
+    requires parts { IfSome (shape_at waiting.old.items stage) (λ shape. All (HasPart shape.parts by_partition) replies.now) }
+    requires room { length replies.now ≤ free_at waiting.old.items stage }
+    ensures rooms { (s : Stage) → (stage.0 == s.0) ≡ false → free_at waiting.new.items s ≡ free_at waiting.old.items s }
+    ensures queued { (s : Stage) → units_at waiting.new.items s ≡ (if stage.0 == s.0 then units_at waiting.old.items s ++ passed_parts by_partition replies.now else units_at waiting.old.items s) }
+    ensures shapes { (s : Stage) → shape_at waiting.new.items s ≡ shape_at waiting.old.items s }
     ensures len { length waiting.new.items ≡ length waiting.old.items }
 {
     let queue = &mut waiting[stage.0 as usize];
     pass_on(queue, by_partition, replies);
 }
 
-/// Makes room for so many units more that wait in the stage. The queues hold what they held.
-pub(crate) fn make_queue_room(
-    waiting: &mut Vec<VecDeque<(u32, u32)>>,
-    stage: StageNo,
-    units: usize,
-) -> Result<(), AllocError>
-    requires within { stage.0 < length waiting.old.items }
-    ensures same { (s : Stage) → queue_at waiting.new.items s ≡ queue_at waiting.old.items s }
-    ensures len { length waiting.new.items ≡ length waiting.old.items }
-    ensures room { OnOk result (units ≤ spare_at waiting.new.items stage) }
-    ensures rooms { (s : Stage) → spare_at waiting.old.items s ≤ spare_at waiting.new.items s }
-{
-    let queue = &mut waiting[stage.0 as usize];
-    queue.reserve(units)
-}
-
-/// Makes that room where the stage passes messages on.
+/// Makes room for so many units more that wait in the stage, where it passes messages on. The buffers hold what they held.
 pub(crate) fn make_room_behind(
-    waiting: &mut Vec<VecDeque<(u32, u32)>>,
+    waiting: &mut Vec<Buffer<u32>>,
     stage: StageNo,
     passes_on: bool,
     units: usize,
 ) -> Result<(), AllocError>
     requires within { stage.0 < length waiting.old.items }
-    ensures same { (s : Stage) → queue_at waiting.new.items s ≡ queue_at waiting.old.items s }
+    ensures same { (s : Stage) → units_at waiting.new.items s ≡ units_at waiting.old.items s }
+    ensures shapes { (s : Stage) → shape_at waiting.new.items s ≡ shape_at waiting.old.items s }
     ensures len { length waiting.new.items ≡ length waiting.old.items }
-    ensures room { OnOk result (passes_on ≡ true → units ≤ spare_at waiting.new.items stage) }
-    ensures rooms { (s : Stage) → spare_at waiting.old.items s ≤ spare_at waiting.new.items s }
+    ensures room { OnOk result (passes_on ≡ true → units ≤ free_at waiting.new.items stage) }
+    ensures rooms { (s : Stage) → free_at waiting.old.items s ≤ free_at waiting.new.items s }
 {
     if !passes_on {
         return Ok(());
     }
-    make_queue_room(waiting, stage, units)
+    make_room(waiting, stage, units)
 }
 
 /// Empties the stage's chunk.

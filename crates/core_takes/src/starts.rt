@@ -3,7 +3,8 @@
 ghost use Rattle.std.specs.Prelude.{◌≡◌, ◌∷◌, ◌≤◌, ◌<◌, ℕ, ◌==◌, if◌then◌else◌, option_map, slice_get, length, true, IsTrue};
 ghost use Rattle.pipe_types.specs.{declared.numbers.StageNo.{StageNo as Stage}, Stages.{spec_of}};
 ghost use Rattle.pipe_model.specs.{Flow.{first_in, has_batchers_in}, Legal.{allows, has_role, is_processor_role}};
-ghost use Rattle.core_tables.specs.{Rows.{post_at, taking}, Tables.{room_at, spare_at}};
+ghost use Rattle.core_tables.specs.{Rows.{post_at, taking}, Tables.{room_at}};
+ghost use Rattle.core_waits.specs.Waits.{free_at};
 ghost use Rattle.core_state.specs.Stands.{Holds};
 ghost use Rattle.core_takes.specs.Takes.{take_of, out_of};
 
@@ -23,7 +24,7 @@ pub fn start(core: &mut Core, stage: StageNo, sub: SubNo, most: u32)
     requires legal { IsTrue (allows core.old.topology core.old.journal.steps (take_of core.old.topology core.old.journal.steps stage sub most)) }
     requires processor { has_role core.old.topology stage is_processor_role ≡ true }
     requires room { most ≤ room_at core.old.chunks.items stage }
-    requires queue { has_batchers_in (spec_of core.old.topology stage) ≡ true → most ≤ spare_at core.old.waiting.items stage }
+    requires queue { has_batchers_in (spec_of core.old.topology stage) ≡ true → most ≤ free_at core.old.waiting.items stage }
     requires spare { 1089 ≤ core.old.journal.spare }
     ensures appended { core.new.journal.steps ≡ take_of core.old.topology core.old.journal.steps stage sub most ∷ core.old.journal.steps }
     ensures topology { core.new.topology ≡ core.old.topology }

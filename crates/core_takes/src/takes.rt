@@ -4,7 +4,8 @@ ghost use Rattle.std.specs.Prelude.{◌≡◌, ◌≢◌, ◌≤◌, ◌<◌, �
 ghost use Rattle.pipe_types.specs.{declared.numbers.StageNo.{StageNo as Stage}, Stages.{spec_of}};
 ghost use Rattle.pipe_model.specs.{Jobs.{take_step, may_take_next, with_step}, Flow.{inbox, units_on, has_batchers_in, batch as batch_as}};
 ghost use Rattle.pipe_model.specs.{Legal.{has_role, is_batch_processor_role, is_processor_role, first_unit}, Work.{chunk_of}, Taken.{first_key, IsBatch, IsTaken}};
-ghost use Rattle.core_tables.specs.Tables.{queue_at, list_at, room_at, spare_at};
+ghost use Rattle.core_tables.specs.Tables.{queue_at, list_at, room_at};
+ghost use Rattle.core_waits.specs.Waits.{free_at};
 ghost use Rattle.core_state.specs.Stands.{Stands, Holds};
 ghost use Rattle.core_laws.specs.Columns.{sub_first};
 ghost use Rattle.core_takes.specs.Takes.{most_of, IsChunk};
@@ -197,7 +198,7 @@ fn make_ready(core: &mut Core, stage: StageNo, most: u32) -> Result<(), AllocErr
     requires stands { Stands core.old }
     requires within { stage.0 ≤ length core.old.topology.stages }
     ensures room { OnOk result (most ≤ room_at core.new.chunks.items stage) }
-    ensures queue { OnOk result (has_batchers_in (spec_of core.new.topology stage) ≡ true → most ≤ spare_at core.new.waiting.items stage) }
+    ensures queue { OnOk result (has_batchers_in (spec_of core.new.topology stage) ≡ true → most ≤ free_at core.new.waiting.items stage) }
     ensures spare { OnOk result (1089 ≤ core.new.journal.spare) }
     ensures unchanged { core.new.journal.steps ≡ core.old.journal.steps }
     ensures topology { core.new.topology ≡ core.old.topology }
@@ -224,7 +225,7 @@ fn make_chunk_ready(core: &mut Core, stage: StageNo, most: u32) -> Result<(), Al
 fn make_queue_ready(core: &mut Core, stage: StageNo, most: u32) -> Result<(), AllocError>
     requires stands { Stands core.old }
     requires within { stage.0 ≤ length core.old.topology.stages }
-    ensures queue { OnOk result (has_batchers_in (spec_of core.old.topology stage) ≡ true → most ≤ spare_at core.new.waiting.items stage) }
+    ensures queue { OnOk result (has_batchers_in (spec_of core.old.topology stage) ≡ true → most ≤ free_at core.new.waiting.items stage) }
     ensures chunks { core.new.chunks ≡ core.old.chunks }
     ensures unchanged { core.new.journal.steps ≡ core.old.journal.steps }
     ensures topology { core.new.topology ≡ core.old.topology }

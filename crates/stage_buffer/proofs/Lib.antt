@@ -7,3 +7,4 @@ pub mod Ordering
 pub mod Popping
 pub mod Rings
 pub mod Search
+pub mod Contents

@@ -149,3 +149,27 @@ module _ {X : Type 0} where
   pub over_units : (old new : List (Buffer (Arrived X))) (size : Option ℕ) (n len arrived : ℕ) (keep : Keep) → size ≡ Some n → IsOrdered old len arrived → n < len → Becomes old new (without_end keep (in_order 0 old)) → map pair_of (in_order 0 new) ≡ without_over (waiting_of old size keep arrived)
   over_units old new size n len arrived keep is before more becomes =
       end_units old new keep becomes ∙ sym (cond-true _ _ _ (is_over_by old size n len arrived is before more))
+
+  -- The oldest went
+
+  none_first : (es : List (Entry X)) → ◌≡◌ {A = Option X} None (option_map (λ (e : Entry X). e.unit) (slice_get es 0)) → es ≡ []
+  none_first [] h = refl
+  none_first (e ∷ es) h = absurd (cc)
+
+  pub none_popped : (old new : List (Buffer (Arrived X))) (len arrived : ℕ) → IsOrdered old len arrived → ◌≡◌ {A = Option X} None (option_map (λ (e : Entry X). e.unit) (slice_get (in_order 0 old) 0)) → Becomes old new (drop 1 (in_order 0 old)) → IsOrdered new len arrived
+  none_popped old new len arrived before none becomes =
+      let empty = none_first (in_order 0 old) none in
+      stands old new (drop 1 (in_order 0 old)) len arrived before.few becomes
+      (below_end Last arrived (in_order 0 old) before.below)
+      (let counted = before.counted in
+      let gone : length (drop 1 (in_order 0 old)) ≡ 0 = ap (λ (xs : List (Entry X)). length (drop 1 xs)) empty in
+      let none_there : length (in_order 0 old) ≡ 0 = ap length empty in
+      omega arith)
+
+  -- one is left to be counted
+  pub some_popped : (old : List (Buffer (Arrived X))) (len arrived : ℕ) (unit : X) → IsOrdered old len arrived → Some unit ≡ option_map (λ (e : Entry X). e.unit) (slice_get (in_order 0 old) 0) → 1 ≤ len
+  some_popped old len arrived unit before some = let counted = before.counted in let more = least (in_order 0 old) some in omega arith
+    where
+      least : (es : List (Entry X)) → Some unit ≡ option_map (λ (e : Entry X). e.unit) (slice_get es 0) → 1 ≤ length es
+      least [] h = absurd (cc)
+      least (e ∷ es) h = omega arith

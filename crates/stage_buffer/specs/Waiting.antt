@@ -1,5 +1,6 @@
 -- The units that wait in a stage.
 use Rattle.std.specs.Prelude.{◌≡◌, ℕ, ◌-◌, ◌≤◌, Bool, true, false, ◌==◌, nat_lt, if◌then◌else◌, List, [], ◌∷◌, length, map, filter, take, drop, slice_get, slice_index_or, Option, Some, None, option_map, refl}
+use Rattle.std.specs.List.{list_any}
 use Rattle.std.specs.Coded.{Coded, code_by, coded×, coded_list, coded_ℕ, coded_option, coded_bool}
 use Rattle.pipe_types.specs.declared.topology.Keep.{Keep}
 use Rattle.pipe_types.specs.declared.topology.Keep.TheVariants.{Last, First}
@@ -83,3 +84,7 @@ module _ {X : Type 0} where
   -- no part has less room than before
   pub record KeepsSpare (old new : Waiting X) : Type 0 where
     pub spare : (p : ℕ) → spare_of old p ≤ spare_of new p
+
+-- the unit with that number waits
+abbrev pub waits : ℕ → List (ℕ × ℕ) → Bool
+waits n units = list_any (λ u. u.1 == n) units

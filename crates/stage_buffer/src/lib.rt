@@ -6,7 +6,8 @@
 #![tactic(auto)]
 
 ghost use Rattle.std.specs.Prelude.{◌≡◌, ℕ, ◌+◌, ◌-◌, ◌<◌, ◌≤◌, ◌^◌, ◌++◌, ◌∷◌, [], length, map, take, drop, option_map, slice_get, option_copied, OnOk, IfOk, OnErr, IfSome, IsNone, if◌then◌else◌, ◌==◌};
-ghost use Rattle.stage_buffer.specs.Waiting.{Waiting, units_of_part, without_first, spare_of, end_of, without_end, over_unit, without_over, KeepsShape, KeepsSpare};
+ghost use Rattle.std.specs.List.{list_any};
+ghost use Rattle.stage_buffer.specs.Waiting.{Waiting, units_of_part, without_first, spare_of, end_of, without_end, over_unit, without_over, waits, KeepsShape, KeepsSpare};
 ghost use Rattle.stage_buffer.specs.Order.{Orders, Becomes, HoldsSame, KeepsRoom, AreBelow, IsEarliest, IsLatest, entry, in_order, items_at, spare_at, remove, unit_of, unit_in, number_of, front_at, back_at, earlier_of, later_of, arrivals_of, arrivals_from};
 
 use circular_buffer::HeapCircularBuffer;
@@ -143,6 +144,20 @@ impl<T: Drop> Buffer<T> {
         self.len
     }
 
+    /// How many parts there are.
+    pub fn part_count(&self) -> u32
+        ensures { result ≡ self.now.parts }
+    {
+        self.rings.len() as u32
+    }
+
+    /// How many units ever arrived.
+    pub fn arrived(&self) -> u64
+        ensures { result ≡ self.now.arrived }
+    {
+        self.arrived
+    }
+
     /// Whether no unit waits.
     pub fn is_empty(&self) -> bool
         ensures { result ≡ (length self.now.units == 0) }
@@ -159,6 +174,19 @@ impl<T: Drop> Buffer<T> {
         ensures shape { KeepsShape self.old self.new }
     {
         let arrived = pop_first(&mut self.rings, part as usize)?;
+        self.len -= 1;
+        Some(arrived.unit)
+    }
+
+    /// Takes the oldest unit of all out.
+    pub fn pop(&mut self) -> Option<T>
+        ensures unit { result ≡ option_map (λ u. u.1) (slice_get self.old.units 0) }
+        ensures units { self.new.units ≡ drop 1 self.old.units }
+        ensures spare { KeepsSpare self.old self.new }
+        ensures arrived { self.new.arrived ≡ self.old.arrived }
+        ensures shape { KeepsShape self.old self.new }
+    {
+        let arrived = pop_oldest(&mut self.rings)?;
         self.len -= 1;
         Some(arrived.unit)
     }
@@ -180,6 +208,40 @@ impl<T: Drop> Buffer<T> {
         self.len -= 1;
         Some(arrived.unit)
     }
+}
+
+impl Buffer<u32> {
+    /// Whether the unit waits.
+    pub fn contains(&self, unit: u32) -> bool
+        ensures { result ≡ waits unit self.now.units }
+    {
+        stands_in(&self.rings, unit)
+    }
+}
+
+/// Whether the unit stands in one of the rings.
+fn stands_in(rings: &[HeapCircularBuffer<Arrived<u32>>], unit: u32) -> bool
+    ensures { result ≡ list_any (λ ring. list_any (λ a. a.unit == unit) ring.items) rings.now }
+{
+    for ring in rings {
+        let (front, back) = ring.as_slices();
+        if is_among(front, unit) || is_among(back, unit) {
+            return true;
+        }
+    }
+    false
+}
+
+/// Whether the unit is one of these.
+fn is_among(units: &[Arrived<u32>], unit: u32) -> bool
+    ensures { result ≡ list_any (λ a. a.unit == unit) units.now }
+{
+    for arrived in units {
+        if arrived.unit == unit {
+            return true;
+        }
+    }
+    false
 }
 
 /// When the units of the rings arrived, with their parts, one ring after the other.

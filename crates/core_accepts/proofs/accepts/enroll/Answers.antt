@@ -8,8 +8,9 @@ use Rattle.pipe_types.specs.declared.step.Step.TheVariants.{Accept}
 use Rattle.pipe_types.specs.Stages.{spec_of}
 use Rattle.pipe_model.specs.History.{History, accepted, accepted_bytes, bytes_in}
 use Rattle.core_tables.specs.declared.rows.Totals.{Totals}
-use Rattle.core_tables.specs.Tables.{items_in, queue_at, contents_up}
+use Rattle.core_tables.specs.Tables.{items_in, contents_up}
 use Rattle.core_laws.specs.Enrolled.{queued}
+use Rattle.core_waits.specs.Waits.{units_at}
 use Rattle.core_state.specs.declared.state.Core.{Core}
 use Rattle.core_state.proofs.Steps.{holds_after, log_kept}
 use Rattle.core_accepts.proofs.Bringing.{bringing, there, queue_room}
@@ -131,8 +132,8 @@ returns-clause-holds c =
       queue =
           c.queue_new.ensures
           ∙ (ap (λ o. items_in o ++ queued spec (core.totals.accepted + 1) c.as_slice-3.result.now) (sym here)
-          ∙ (ap (λ n. queue_at core.waiting.items s ++ queued spec (n + 1) c.as_slice-3.result.now) many
-          ∙ ap (λ (rs : List (List ℕ)). queue_at core.waiting.items s ++ queued spec (accepted before + 1) rs) c.as_slice-3.ensures));
+          ∙ (ap (λ n. units_at core.waiting.items s ++ queued spec (n + 1) c.as_slice-3.result.now) many
+          ∙ ap (λ (rs : List (List ℕ)). units_at core.waiting.items s ++ queued spec (accepted before + 1) rs) c.as_slice-3.ensures));
       places = c.place_new.ensures.items ∙ ap (λ n. core.places.items ++ replicate n (Waiting s)) count;
       settled = c.mark_new.ensures.items ∙ ap (λ n. core.settled.items ++ replicate n 0) count;
       producers = c.produce_new.ensures.items ∙ ap (λ n. core.producers.items ++ replicate n s) count;

@@ -2,7 +2,7 @@ use Rattle.std.proofs.Common.{◌≡◌, ◌<◌, length, refl, ap, arith, Some}
 use Rattle.std.specs.Prelude.{slice_get}
 use Rattle.std.specs.Vec.{with_item}
 use Rattle.std.proofs.lemmas.Option.{slice_get_read}
-use Rattle.core_tables.specs.Tables.{spare_at, spare_in}
+use Rattle.core_waits.specs.Waits.{free_at, free_in, free}
 use Rattle.core_tables.proofs.Tables.{get-set_same}
 use Rattle.core_accepts.proofs.Making.{holds_on_ok, queue_stands}
 use Rattle.core_accepts.proofs.accepts.make_room.Goals as goal
@@ -12,7 +12,7 @@ returns-clause-room c =
     let core = c.args.core.now in
     let s = c.args.stage in
     let within : s.0 < length core.waiting.items = omega (arith, c.requires.known, c.requires.stands.holds.fields.sized.waiting) in
-    let here : spare_at (with_item core.waiting s.0 c.reserve.new.self).items s ≡ spare_in (Some c.reserve.new.self) = ap spare_in (get-set_same core.waiting.items s.0 c.reserve.new.self within) in
+    let here : free_at (with_item core.waiting s.0 c.reserve.new.self).items s ≡ free c.reserve.new.self = ap free_in (get-set_same core.waiting.items s.0 c.reserve.new.self within) in
     holds_on_ok c.reserve-2.result _ (omega (arith, here, c.in_ok-reserve.ensures.ok))
 
 pub returns-in_err-reserve-clause-stands : goal.returns-in_err-reserve-clause-stands

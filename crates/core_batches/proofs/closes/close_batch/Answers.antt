@@ -5,35 +5,35 @@ use Rattle.pipe_types.specs.declared.step.Step.TheVariants.{Close}
 use Rattle.pipe_types.specs.Numbers.{batch_no}
 use Rattle.pipe_model.specs.History.{History, accepted, closed}
 use Rattle.pipe_model.specs.Flow.{put_in_batch}
-use Rattle.core_tables.specs.Tables.{queue_at}
 use Rattle.stage_laws.proofs.Bounds.{close_facts}
 use Rattle.core_laws.proofs.Lawful.{each_all}
+use Rattle.core_waits.specs.Waits.{units_at}
 use Rattle.core_state.specs.declared.state.Core.{Core}
 use Rattle.core_state.proofs.Rooms.{room_due, room_after}
 use Rattle.core_state.proofs.Steps.{holds_after, unowed_after, log_kept}
 use Rattle.core_batches.specs.Closes.{batch_part}
 use Rattle.core_batches.proofs.Rooming.{close_queues}
-use Rattle.core_batches.proofs.Closing.{closed_fields, close_within, spec_here, parts_here, roomy_stands, closing_some, found_closing, found_there, closed_small, numbers_within, closed_same}
+use Rattle.core_batches.proofs.Closing.{closed_fields, close_within, spec_here, parts_here, roomy_stands, closing_some, found_closing, found_there, closed_small, numbers_within, closed_same, has_parts, low_part}
 use Rattle.core_batches.proofs.closes.close_batch.Goals as goal
 
 pub returns-in_err-reserve-clause-stands : goal.returns-in_err-reserve-clause-stands
 returns-in_err-reserve-clause-stands c =
-    let core = c.args.core.now in roomy_stands core c.reserve.new.self core.batches core.waiting c.requires.stands c.reserve.ensures.same_steps refl (λ t. refl) refl c.reserve.ensures.spare (λ t. omega arith) c.reserve.ensures.same_acked
+    let core = c.args.core.now in roomy_stands core c.reserve.new.self core.batches core.waiting c.requires.stands c.reserve.ensures.same_steps refl (λ t. refl) (λ t. refl) refl c.reserve.ensures.spare (λ t. omega arith) c.reserve.ensures.same_acked
 
 pub returns-in_err-reserve-2-clause-stands : goal.returns-in_err-reserve-2-clause-stands
 returns-in_err-reserve-2-clause-stands c =
-    roomy_stands c.args.core.now c.reserve.new.self c.reserve-2.new.self c.args.core.now.waiting c.requires.stands c.in_ok-reserve.ensures.same_steps c.reserve-2.ensures.items (λ t. refl) refl
+    roomy_stands c.args.core.now c.reserve.new.self c.reserve-2.new.self c.args.core.now.waiting c.requires.stands c.in_ok-reserve.ensures.same_steps c.reserve-2.ensures.items (λ t. refl) (λ t. refl) refl
     c.in_ok-reserve.ensures.spare (λ t. omega arith) c.in_ok-reserve.ensures.same_acked
 
-pub make_room_for_one-requires : goal.make_room_for_one-requires
-make_room_for_one-requires c =
+pub make_room-requires : goal.make_room-requires
+make_room-requires c =
     let x = c.requires.stands.holds in
     omega (arith, x.fields.sized.waiting, (close_within c.args.core.now.topology c.args.core.now.journal.steps c.args.stage c.args.first c.requires.legal.trigger x.sound c.requires.legal.legal).1)
 
-pub returns-in_err-make_room_for_one-clause-stands : goal.returns-in_err-make_room_for_one-clause-stands
-returns-in_err-make_room_for_one-clause-stands c =
-    roomy_stands c.args.core.now c.reserve.new.self c.reserve-2.new.self c.make_room_for_one.new.waiting c.requires.stands c.in_ok-reserve.ensures.same_steps c.in_ok-reserve-2.ensures.items
-    c.in_err-make_room_for_one.ensures.same c.in_err-make_room_for_one.ensures.len c.in_ok-reserve.ensures.spare c.in_err-make_room_for_one.ensures.rooms c.in_ok-reserve.ensures.same_acked
+pub returns-in_err-make_room-clause-stands : goal.returns-in_err-make_room-clause-stands
+returns-in_err-make_room-clause-stands c =
+    roomy_stands c.args.core.now c.reserve.new.self c.reserve-2.new.self c.make_room.new.waiting c.requires.stands c.in_ok-reserve.ensures.same_steps c.in_ok-reserve-2.ensures.items
+    c.in_err-make_room.ensures.same c.in_err-make_room.ensures.shapes c.in_err-make_room.ensures.len c.in_ok-reserve.ensures.spare c.in_err-make_room.ensures.rooms c.in_ok-reserve.ensures.same_acked
 
 pub closable_in-found-requires-clause-within : goal.closable_in-found-requires-clause-within
 closable_in-found-requires-clause-within c =
@@ -86,11 +86,23 @@ part_of_batch-part-requires-clause-parts c =
     c.requires.dry c.closable_in-found.ensures.closable c.closable_in-found.ensures.first c.close_open-batch.ensures.key c.close_open-batch.ensures.numbers in
     parts_here core.topology c.args.stage c.requires.stands.holds.sound g.closing.role within.0 within.1
 
-pub queue_batch-requires-clause-within : goal.queue_batch-requires-clause-within
-queue_batch-requires-clause-within c =
+pub queue_unit-requires-clause-within : goal.queue_unit-requires-clause-within
+queue_unit-requires-clause-within c =
     let core = c.args.core.now in
     let x = c.requires.stands.holds in
-    omega (arith, x.fields.sized.waiting, c.in_ok-make_room_for_one.ensures.len, (close_within core.topology core.journal.steps c.args.stage c.args.first c.requires.legal.trigger x.sound c.requires.legal.legal).1)
+    omega (arith, x.fields.sized.waiting, c.in_ok-make_room.ensures.len, (close_within core.topology core.journal.steps c.args.stage c.args.first c.requires.legal.trigger x.sound c.requires.legal.legal).1)
+
+pub queue_unit-requires-clause-part : goal.queue_unit-requires-clause-part
+queue_unit-requires-clause-part c =
+    let core = c.args.core.now in
+    let s = c.args.stage in
+    let x = c.requires.stands.holds in
+    let within = close_within core.topology core.journal.steps s c.args.first c.requires.legal.trigger x.sound c.requires.legal.legal in
+    let role = (close_facts core.topology core.journal.steps s c.args.first c.requires.legal.trigger c.requires.legal.legal).role in
+    let spec = spec_here core.topology s x.sound within.0 within.1 in
+    let parted : c.part_of_batch-part.result ≡ batch_part (Some spec.0) c.as_slice.result.now = c.part_of_batch-part.ensures ∙ ap (λ o. batch_part o c.as_slice.result.now) spec.1.there in
+    low_part c.make_room.new.waiting.items s spec.0 c.part_of_batch-part.result c.as_slice.result.now
+    (c.in_ok-make_room.ensures.shapes s ∙ x.fields.set.waiting s spec.0 spec.1.known) parted (has_parts core.topology s spec.0 x.sound spec.1.known role)
 
 pub returns-clause-number : goal.returns-clause-number
 returns-clause-number c =
@@ -129,19 +141,20 @@ returns-clause-stands c =
     record core {
       journal = c.push_spare.new.self;
       batchers = c.close_open-batch.new.batchers;
-      waiting = c.queue_batch.new.waiting;
+      waiting = c.queue_unit.new.waiting;
       places = c.join_all.new.places;
       batches = c.push_reserved.new.self;
       totals = record core.totals { quiet = 0 };
     } in
     let written = c.push_spare.ensures.written ∙ (ap (λ (t : Trigger). Close s first t ∷ c.reserve.new.self.steps) g.same ∙ ap (λ (h : History). Close s first trigger ∷ h) c.in_ok-reserve.ensures.same_steps) in
     let fields =
-    closed_fields core core.topology before s first trigger at key numbers spec.0 part c.push_spare.new.self c.close_open-batch.new.batchers c.queue_batch.new.waiting c.join_all.new.places c.push_reserved.new.self
+    closed_fields core core.topology before s first trigger at key numbers spec.0 part c.push_spare.new.self c.close_open-batch.new.batchers c.queue_unit.new.waiting c.join_all.new.places c.push_reserved.new.self
     c.new_row-row.result x.sound x.fields g.closing spec.1.known parted c.close_open-batch.ensures.batchers c.close_open-batch.ensures.len
-    (λ t. c.queue_batch.ensures.queued t
-    ∙ (ap (λ k. if s.0 == t.0 then queue_at c.make_room_for_one.new.waiting.items t ++ (part, k) ∷ [] else queue_at c.make_room_for_one.new.waiting.items t) no
-    ∙ ap (λ (us : List (ℕ × ℕ)). if s.0 == t.0 then us ++ (part, closed before + 1) ∷ [] else us) (c.in_ok-make_room_for_one.ensures.same t)))
-    (c.queue_batch.ensures.len ∙ c.in_ok-make_room_for_one.ensures.len)
+    (λ t. c.queue_unit.ensures.queued t
+    ∙ (ap (λ k. if s.0 == t.0 then units_at c.make_room.new.waiting.items t ++ (part, k) ∷ [] else units_at c.make_room.new.waiting.items t) no
+    ∙ ap (λ (us : List (ℕ × ℕ)). if s.0 == t.0 then us ++ (part, closed before + 1) ∷ [] else us) (c.in_ok-make_room.ensures.same t)))
+    (λ t. c.queue_unit.ensures.shapes t ∙ c.in_ok-make_room.ensures.shapes t)
+    (c.queue_unit.ensures.len ∙ c.in_ok-make_room.ensures.len)
     (λ i. c.join_all.ensures.placed i
     ∙ (ap (λ k. option_map (put_in_batch c.deref.result.now s k (suc i)) (slice_get core.places.items i)) no
     ∙ ap (λ ms. option_map (put_in_batch ms s (closed before + 1) (suc i)) (slice_get core.places.items i)) c.deref.ensures.value))
@@ -150,8 +163,8 @@ returns-clause-stands c =
     let room = room_after core core-new (Close s first trigger) x c.requires.legal.legal refl
     (room_due core (Close s first trigger ∷ before) c.reserve.new.self.spare c.push_spare.new.self.spare x c.in_ok-reserve.ensures.room c.push_spare.ensures.spare)
     c.join_all.ensures.capacity refl refl refl
-    (close_queues core s c.queue_batch.new.waiting.items x (close_facts core.topology before s first trigger c.requires.legal.legal).role
-    (λ t other. omega (arith, c.queue_batch.ensures.rooms t other, c.in_ok-make_room_for_one.ensures.rooms t))) refl in
+    (close_queues core s c.queue_unit.new.waiting.items x (close_facts core.topology before s first trigger c.requires.legal.legal).role
+    (λ t other. omega (arith, c.queue_unit.ensures.rooms t other, c.in_ok-make_room.ensures.rooms t))) refl in
     let holds = holds_after core core-new (Close s first trigger) x refl written c.requires.legal.legal fields room
     (log_kept core (Close s first trigger) c.push_spare.new.self.acked x c.requires.legal.legal refl refl (c.push_spare.ensures.same_acked ∙ c.in_ok-reserve.ensures.same_acked)) in
     record { holds = holds; unowed = unowed_after core-new core.topology (Close s first trigger) before refl written refl }

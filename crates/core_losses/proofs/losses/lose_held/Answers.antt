@@ -1,8 +1,8 @@
 use Rattle.std.proofs.Common.{◌≡◌, ℕ, ◌<◌, List, length, sym, subst, All}
 use Rattle.std.specs.Prelude.{slice_get, option_map, ◌^◌}
 use Rattle.std.specs.declared.alloc.Global.{Global}
-use Rattle.std.specs.declared.collections.VecDeque.{VecDeque}
 use Rattle.pipe_types.specs.declared.topology.StageSpec.{StageSpec}
+use Rattle.stage_buffer.specs.Waiting.{Waiting}
 use Rattle.core_tables.specs.declared.rows.StageRow.{StageRow}
 use Rattle.core_tables.specs.declared.rows.BatchRow.{BatchRow}
 use Rattle.core_deaths.specs.Reasons.{reason_at}
@@ -16,7 +16,7 @@ use Rattle.core_losses.proofs.losses.lose_held.Goals as goal
 pub lose_batches-requires-clause-within : goal.lose_batches-requires-clause-within
 lose_batches-requires-clause-within c =
     subst (λ (specs : List StageSpec). All (λ spec. spec.no.0 < length c.deref-4.result.now) specs) (sym c.as_slice.ensures)
-    (subst (λ (qs : List (VecDeque (ℕ × ℕ) Global)). All (λ spec. spec.no.0 < length qs) c.args.core.now.topology.stages) (sym c.deref-4.ensures.value) (specs_within c.args.core.now c.requires.holds))
+    (subst (λ (qs : List (Waiting ℕ)). All (λ spec. spec.no.0 < length qs) c.args.core.now.topology.stages) (sym c.deref-4.ensures.value) (specs_within c.args.core.now c.requires.holds))
 
 pub lose_batches-requires-clause-few : goal.lose_batches-requires-clause-few
 lose_batches-requires-clause-few c = subst (λ (rows : List BatchRow). length rows < 2 ^ 32) (sym c.deref.ensures.value) (batches_few c.args.core.now c.requires.holds)

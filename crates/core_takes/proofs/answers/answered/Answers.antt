@@ -8,8 +8,9 @@ use Rattle.pipe_model.specs.Posts.{last_take}
 use Rattle.pipe_model.specs.Content.{has_crash}
 use Rattle.pipe_model.specs.Flow.{done}
 use Rattle.stage_subs.specs.Subs.{row_at}
-use Rattle.core_tables.specs.Tables.{queue_at, list_at}
+use Rattle.core_tables.specs.Tables.{list_at}
 use Rattle.core_laws.specs.Columns.{running}
+use Rattle.core_waits.specs.Waits.{units_at}
 use Rattle.core_state.specs.declared.state.Core.{Core}
 use Rattle.core_state.proofs.Rooms.{room_after}
 use Rattle.core_state.proofs.Steps.{holds_after, log_fits, log_noted}
@@ -17,6 +18,7 @@ use Rattle.core_takes.proofs.Rooming.{done_due, answer_queues}
 use Rattle.core_takes.specs.Replies.{passed_parts, marked, noted, counted_on, HasRow, parted, take_in}
 use Rattle.core_takes.proofs.TakenChunk.{list_read}
 use Rattle.core_takes.proofs.Answered.{known_answer, chunk_read, chunk_numbered, chunk_acks, Answered, answered_fields, counts_fit, rows_there, replies_few}
+use Rattle.core_takes.proofs.Passing.{passed_fit}
 use Rattle.core_takes.proofs.answers.answered.Goals as goal
 
 pub index-chunk-requires : goal.index-chunk-requires
@@ -77,6 +79,14 @@ pub queue_passed-requires-clause-within : goal.queue_passed-requires-clause-with
 queue_passed-requires-clause-within c =
     omega (arith, (known_answer c.args.core.now c.args.stage c.args.replies c.requires.holds c.requires.legal c.requires.calm).within, c.requires.holds.fields.sized.waiting)
 
+pub queue_passed-requires-clause-parts : goal.queue_passed-requires-clause-parts
+queue_passed-requires-clause-parts c =
+    let core = c.args.core.now in
+    let s = c.args.stage in
+    let known = known_answer core s c.args.replies c.requires.holds c.requires.legal c.requires.calm in
+    passed_fit core s known.spec c.args.replies c.as_slice-4.result.now c.is_parted-by_partition.result c.requires.holds c.requires.legal known.spec-is
+    (c.is_parted-by_partition.ensures ∙ ap parted known.spec-is) c.as_slice-4.ensures
+
 pub queue_passed-requires-clause-room : goal.queue_passed-requires-clause-room
 queue_passed-requires-clause-room c =
     let known = known_answer c.args.core.now c.args.stage c.args.replies c.requires.holds c.requires.legal c.requires.calm in
@@ -121,7 +131,8 @@ returns-clause-holds c =
       posts-is = c.come_home.ensures.posts;
       posts-len = c.come_home.ensures.len;
       pairs = λ q r. c.count_taken.ensures q r ∙ ap (λ t. counted_on t q r (row_at core.subs q r)) took;
-      queues = λ t. c.queue_passed.ensures.queued t ∙ ap (λ (ms : List Reply). if b then (if s.0 == t.0 then queue_at core.waiting.items t ++ passed_parts p ms else queue_at core.waiting.items t) else queue_at core.waiting.items t) c.as_slice-4.ensures;
+      queues = λ t. c.queue_passed.ensures.queued t ∙ ap (λ (ms : List Reply). if b then (if s.0 == t.0 then units_at core.waiting.items t ++ passed_parts p ms else units_at core.waiting.items t) else units_at core.waiting.items t) c.as_slice-4.ensures;
+      shapes = c.queue_passed.ensures.shapes;
       queues-len = c.queue_passed.ensures.len;
       cleared = c.clear_chunk.ensures.cleared;
       cleared-len = c.clear_chunk.ensures.len;

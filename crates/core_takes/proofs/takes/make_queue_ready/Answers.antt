@@ -7,4 +7,4 @@ make_room_behind-requires c = record { within = omega (arith, c.requires.within,
 
 pub returns-clause-stands : goal.returns-clause-stands
 returns-clause-stands c =
-    queues_stand c.args.core.now c.make_room_behind.new.waiting c.requires.stands c.make_room_behind.ensures.same c.make_room_behind.ensures.len c.make_room_behind.ensures.rooms
+    queues_stand c.args.core.now c.make_room_behind.new.waiting c.requires.stands c.make_room_behind.ensures.same c.make_room_behind.ensures.shapes c.make_room_behind.ensures.len c.make_room_behind.ensures.rooms

@@ -38,7 +38,15 @@ use Rattle.pipe_laws.proofs.Contents.{newer_cases}
 use Rattle.stage_laws.proofs.Groups.{fields_of}
 use Rattle.stage_callback.specs.Callbacks.{is_countable, routes_below, can_arm, is_message_for}
 use Rattle.stage_callback.proofs.Shapes.{eval_shape}
-use Rattle.body_laws.proofs.Posts.{some_role}
+
+pub some_role : (topology : Topology) (s : StageNo) (test : Role → Bool) → has_role topology s test ≡ true → (spec : StageSpec) × (spec_of topology s ≡ Some spec) × (test spec.role ≡ true)
+some_role topology s test h = by_spec (spec_of topology s) refl
+  where
+    by_spec : (o : Option StageSpec) → spec_of topology s ≡ o → (spec : StageSpec) × (spec_of topology s ≡ Some spec) × (test spec.role ≡ true)
+    by_spec None e = let none : has_role topology s test ≡ false = rw e refl in clash (has_role topology s test) h none
+    by_spec (Some spec) e =
+        let same : has_role topology s test ≡ test spec.role = rw e refl in
+        (spec, e, sym same ∙ h)
 
 -- ---- a supervisor has no batchers
 
@@ -100,7 +108,7 @@ no_batchers_by (s ∷ rest) pick x h e is = alone (length (batchers (s ∷ rest)
 
 -- ---- the batchers of a spec
 
-processor_is : (r : Role) → is_processor_role r ≡ true → r ≡ Processor
+pub processor_is : (r : Role) → is_processor_role r ≡ true → r ≡ Processor
 processor_is Processor h = refl
 processor_is Producer h = let x : false ≡ true = h in cc
 processor_is Supervisor h = let x : false ≡ true = h in cc
@@ -172,11 +180,11 @@ may_arm spec h =
 
 -- ---- replies pass messages that fit
 
-abbrev PassesFit : ℕ → Reply → Type 0
+abbrev pub PassesFit : ℕ → Reply → Type 0
 PassesFit b (Passed m) = is_message_for b m ≡ true
 PassesFit b _ = Unit {0}
 
-abbrev AllFit : ℕ → List Reply → Type 0
+abbrev pub AllFit : ℕ → List Reply → Type 0
 AllFit b [] = Unit {0}
 AllFit b (r ∷ replies) = PassesFit b r × AllFit b replies
 
@@ -295,7 +303,7 @@ accept_short topology before s records h =
 late_short : (topology : Topology) (before : History) (s : StageNo) (slot i : ℕ) (records : List (List ℕ)) → allows topology before (Late s slot i (Records records)) ≡ true → list_all (λ r. nat_le (length r) max_bytes) records ≡ true
 late_short topology before s slot i records h = records_short records (fetch_out before s) (and_right (has_role topology s is_producer_role) _ (late_facts topology before s slot i (Records records) h).fits)
 
-done_fit : (topology : Topology) (before : History) (s : StageNo) (replies : List Reply) → IsSound topology → allows topology before (Done s replies) ≡ true
+pub done_fit : (topology : Topology) (before : History) (s : StageNo) (replies : List Reply) → IsSound topology → allows topology before (Done s replies) ≡ true
     → ((n : ℕ) (m : Message) → content before n ≡ Some m → is_message_for (length (batchers topology.stages)) m ≡ true) → AllFit (length (batchers topology.stages)) replies
 done_fit topology before s replies sound h each =
     let facts = done_facts topology before s replies h in

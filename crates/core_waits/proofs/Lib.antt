@@ -1,0 +1,5 @@
+pub mod Free
+pub mod Columns
+pub mod New
+pub mod Parts
+pub mod Emptied
