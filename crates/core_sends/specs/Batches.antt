@@ -13,7 +13,7 @@ use Rattle.pipe_types.specs.declared.message.Place.{Place}
 use Rattle.pipe_types.specs.declared.message.Place.TheVariants.{Acked}
 use Rattle.pipe_types.specs.declared.message.Outcome.TheVariants.{Successful}
 use Rattle.pipe_model.specs.Flow.{among}
-use Rattle.core_sends.specs.Losing.{marked, numbers_in}
+use Rattle.core_sends.specs.Losing.{marked}
 
 -- a batch in a row, as it was closed
 abbrev pub closed_at : List BatchRow → ℕ → Option Closed
@@ -65,24 +65,24 @@ abbrev pub all_marked : (numbers : ℕ → List ℕ) → (bs : List ℕ) → (ma
 all_marked numbers [] mark n old = old
 all_marked numbers (b ∷ bs) mark n old = all_marked numbers bs mark n (marked (numbers b) mark n old)
 
--- the numbers of those of these units that were not sent
-abbrev pub lone_of : List (ℕ × Ends) → List (ℕ × ℕ) → List ℕ
-lone_of legs units = numbers_in (filter (λ unit. not_sent legs unit.1) units)
+-- those of these batches that were not sent
+abbrev pub lone_of : List (ℕ × Ends) → List ℕ → List ℕ
+lone_of legs bs = filter (not_sent legs) bs
 
 -- the messages of the batch, where it was not sent
-abbrev pub alone_in : List BatchRow → List (ℕ × Ends) → ℕ × ℕ → List ℕ
-alone_in rows legs unit = if not_sent legs unit.1 then numbers_of rows unit.1 else []
+abbrev pub alone_in : List BatchRow → List (ℕ × Ends) → ℕ → List ℕ
+alone_in rows legs b = if not_sent legs b then numbers_of rows b else []
 
 -- the messages of those of these batches that were not sent
-abbrev pub served_alone : List BatchRow → List (ℕ × Ends) → List (ℕ × ℕ) → List ℕ
-served_alone rows legs units = flat_map (alone_in rows legs) units
+abbrev pub served_alone : List BatchRow → List (ℕ × Ends) → List ℕ → List ℕ
+served_alone rows legs bs = flat_map (alone_in rows legs) bs
 
 -- the row of a message that is a success
 abbrev pub success : List StageNo → (at : ℕ) → ℕ → Option AckRow
 success producers at n = ack_row (Some (Acked Successful)) (slice_get producers (n - 1)) at n
 
 -- the batch has a row, and its messages have places
-pub record IsEndable (rows : List BatchRow) (count : ℕ) (unit : ℕ × ℕ) : Type 0 where
-  pub low : 1 ≤ unit.1
-  pub there : unit.1 ≤ length rows
-  pub within : All (λ n. (1 ≤ n) × (n ≤ count)) (numbers_of rows unit.1)
+pub record IsEndable (rows : List BatchRow) (count : ℕ) (b : ℕ) : Type 0 where
+  pub low : 1 ≤ b
+  pub there : b ≤ length rows
+  pub within : All (λ n. (1 ≤ n) × (n ≤ count)) (numbers_of rows b)

@@ -9,19 +9,6 @@ use Rattle.pipe_types.specs.declared.topology.Keep.TheVariants.{Last, First}
 use Rattle.pipe_types.specs.Numbers.{same_stage}
 use Rattle.pipe_model.specs.Flow.{among, waits_in}
 
--- the message with that number waits in the stage
-abbrev pub still_waits : List Place → StageNo → ℕ → Bool
-still_waits places s n = waits_in s (slice_get places (n - 1))
-
--- one turn of going through a queue: the first unit is passed over, or put behind the others where it stays
-abbrev pub first_kept : (stays : ℕ → Bool) → List (ℕ × ℕ) → Bool
-first_kept stays [] = false
-first_kept stays (unit ∷ units) = stays unit.1
-
-abbrev pub passed : (stays : ℕ → Bool) → List (ℕ × ℕ) → List (ℕ × ℕ)
-passed stays [] = []
-passed stays (unit ∷ units) = if stays unit.1 then units ++ unit ∷ [] else units
-
 -- a message that waits in the stage is lost over its size
 abbrev pub lost_in : StageNo → Place → Place
 lost_in s (Waiting t) = if same_stage s t then Lost (Overflow s) else Waiting t
@@ -61,10 +48,6 @@ over_of size keep xs = between (over_from size keep (length xs)) (over_to size k
 
 abbrev pub kept_of : {A : Type 0} → Option ℕ → Keep → List A → List A
 kept_of size keep xs = outside (over_from size keep (length xs)) (over_to size keep (length xs)) xs
-
--- the units of a queue that still wait in the stage
-abbrev pub left_in : List Place → StageNo → List (ℕ × ℕ) → List (ℕ × ℕ)
-left_in places s queue = filter (λ unit. still_waits places s unit.1) queue
 
 abbrev pub numbers_in : List (ℕ × ℕ) → List ℕ
 numbers_in queue = map (λ unit. unit.1) queue

@@ -1,18 +1,19 @@
 //! The batches at the front of a batcher's queue that a dispatch serves, and those among them that are sent nowhere.
 
-ghost use Rattle.std.specs.{Prelude.{◌≡◌, ℕ, suc, ◌+◌, ◌++◌, ◌≤◌, ◌<◌, [], ◌∷◌, length, All, true, drop, take, filter, option_map, slice_get, Some, vec_capacity}, List.{filter_map}};
-ghost use Rattle.core_tables.specs.Tables.{spare_in};
-ghost use Rattle.core_sends.specs.{Losing.{marked}, Batches.{not_sent, numbers_of, succeeded, all_succeeded, all_marked, lone_of, alone_in, served_alone, success, IsEndable}};
+ghost use Rattle.std.specs.{Prelude.{◌≡◌, ℕ, suc, ◌+◌, ◌++◌, ◌≤◌, ◌<◌, [], ◌∷◌, length, All, drop, take, option_map, slice_get, vec_capacity}, List.{filter_map}};
+ghost use Rattle.stage_buffer.specs.Waiting.{KeepsShape};
+ghost use Rattle.core_waits.specs.Waits.{free};
+ghost use Rattle.core_sends.specs.{Losing.{marked, numbers_in}, Batches.{numbers_of, succeeded, all_succeeded, all_marked, lone_of, alone_in, served_alone, success, IsEndable}};
 
-use crate::leaving::keep_unsent;
 use core_state::settles::{mark_all, note_row};
 use core_tables::place_table::PlaceTable;
 use core_tables::rows::BatchRow;
+use core_waits::take_oldest;
 use message_ack::Legs;
 use pipe_journal::Journal;
 use pipe_types::message::{Outcome, Place};
 use pipe_types::numbers::{BatchNo, StageNo};
-use std::collections::VecDeque;
+use stage_buffer::Buffer;
 
 /// Notes a success for each of these messages.
 fn succeed_all(places: &mut PlaceTable, numbers: &[u32])
@@ -49,88 +50,86 @@ fn succeed(
     mark_all(settled, &batches[at].numbers, mark);
 }
 
-/// Takes the first batch out of the queue. Where it was not sent, its messages are successes.
+/// Takes the first batch out of the buffer. Where it was not sent, its messages are successes.
 fn pass_served(
-    queue: &mut VecDeque<(u32, u32)>,
+    queue: &mut Buffer<u32>,
     places: &mut PlaceTable,
     settled: &mut Vec<u64>,
     batches: &Vec<BatchRow>,
     legs: &Legs,
     mark: u64,
 )
-    requires endable { All (IsEndable batches.now.items (length places.old.items)) queue.old.items }
+    requires endable { All (IsEndable batches.now.items (length places.old.items)) (numbers_in queue.old.units) }
     requires settled { length settled.old.items ≡ length places.old.items }
-    ensures queue { queue.new.items ≡ drop 1 queue.old.items }
+    ensures queue { queue.new.units ≡ drop 1 queue.old.units }
     ensures places_len { length places.new.items ≡ length places.old.items }
-    ensures placed { (i : ℕ) → slice_get places.new.items i ≡ option_map (all_succeeded (numbers_of batches.now.items) (lone_of legs.now (take 1 queue.old.items)) (suc i)) (slice_get places.old.items i) }
+    ensures placed { (i : ℕ) → slice_get places.new.items i ≡ option_map (all_succeeded (numbers_of batches.now.items) (lone_of legs.now (take 1 (numbers_in queue.old.units))) (suc i)) (slice_get places.old.items i) }
     ensures settled_len { length settled.new.items ≡ length settled.old.items }
-    ensures marked { (i : ℕ) → slice_get settled.new.items i ≡ option_map (all_marked (numbers_of batches.now.items) (lone_of legs.now (take 1 queue.old.items)) mark (suc i)) (slice_get settled.old.items i) }
-    ensures room { spare_in (Some queue.old) ≤ spare_in (Some queue.new) }
+    ensures marked { (i : ℕ) → slice_get settled.new.items i ≡ option_map (all_marked (numbers_of batches.now.items) (lone_of legs.now (take 1 (numbers_in queue.old.units))) mark (suc i)) (slice_get settled.old.items i) }
+    ensures shape { KeepsShape queue.old queue.new }
+    ensures room { free queue.old ≤ free queue.new }
     ensures places_capacity { vec_capacity places.new ≡ vec_capacity places.old }
     ensures settled_capacity { vec_capacity settled.new ≡ vec_capacity settled.old }
 {
-    let Some(unit) = queue.pop_front() else {
+    let Some(no) = take_oldest(queue) else {
         return;
     };
-    if legs.is_sent(BatchNo(unit.1)) {
+    if legs.is_sent(BatchNo(no)) {
         return;
     }
-    succeed(places, settled, batches, (unit.1 - 1) as usize, mark);
+    succeed(places, settled, batches, (no - 1) as usize, mark);
 }
 
-/// Takes the batches out of a batcher's queue that a dispatch served: the first so many, which are sent or whose messages
-/// are successes; and of the others those that were sent, which stand among the first so many.
-pub(crate) fn leave_batches(
-    queue: &mut VecDeque<(u32, u32)>,
+/// Takes the first so many batches out of a batcher's buffer, which a dispatch served whoever picks them. The messages of those
+/// that are sent nowhere are successes.
+pub(crate) fn leave_served(
+    queue: &mut Buffer<u32>,
     places: &mut PlaceTable,
     settled: &mut Vec<u64>,
     batches: &Vec<BatchRow>,
     legs: &Legs,
     served: usize,
-    first: usize,
     mark: u64,
 )
-    requires served { served ≤ length queue.old.items }
-    requires within { first ≤ length queue.old.items }
-    requires rest { All (λ unit. not_sent legs.now unit.1 ≡ true) (drop first queue.old.items) }
-    requires endable { All (IsEndable batches.now.items (length places.old.items)) queue.old.items }
+    requires served { served ≤ length queue.old.units }
+    requires endable { All (IsEndable batches.now.items (length places.old.items)) (numbers_in queue.old.units) }
     requires settled { length settled.old.items ≡ length places.old.items }
-    ensures queue { queue.new.items ≡ filter (λ unit. not_sent legs.now unit.1) (drop served queue.old.items) }
+    ensures queue { queue.new.units ≡ drop served queue.old.units }
     ensures places_len { length places.new.items ≡ length places.old.items }
-    ensures placed { (i : ℕ) → slice_get places.new.items i ≡ option_map (all_succeeded (numbers_of batches.now.items) (lone_of legs.now (take served queue.old.items)) (suc i)) (slice_get places.old.items i) }
+    ensures placed { (i : ℕ) → slice_get places.new.items i ≡ option_map (all_succeeded (numbers_of batches.now.items) (lone_of legs.now (take served (numbers_in queue.old.units))) (suc i)) (slice_get places.old.items i) }
     ensures settled_len { length settled.new.items ≡ length settled.old.items }
-    ensures marked { (i : ℕ) → slice_get settled.new.items i ≡ option_map (all_marked (numbers_of batches.now.items) (lone_of legs.now (take served queue.old.items)) mark (suc i)) (slice_get settled.old.items i) }
-    ensures room { spare_in (Some queue.old) ≤ spare_in (Some queue.new) }
+    ensures marked { (i : ℕ) → slice_get settled.new.items i ≡ option_map (all_marked (numbers_of batches.now.items) (lone_of legs.now (take served (numbers_in queue.old.units))) mark (suc i)) (slice_get settled.old.items i) }
+    ensures shape { KeepsShape queue.old queue.new }
+    ensures room { free queue.old ≤ free queue.new }
     ensures places_capacity { vec_capacity places.new ≡ vec_capacity places.old }
     ensures settled_capacity { vec_capacity settled.new ≡ vec_capacity settled.old }
 {
     for k in 0..served {
         pass_served(queue, places, settled, batches, legs, mark);
     }
-    keep_unsent(queue, legs, first.saturating_sub(served));
 }
 
-/// Notes the messages of the first so many batches of the queue that were not sent in the journal's log, as successes by the step
+/// Notes the messages of the first so many of these batches that were not sent in the journal's log, as successes by the step
 /// at that place.
 pub(crate) fn note_alone(
     journal: &mut Journal,
     producers: &[StageNo],
-    queue: &VecDeque<(u32, u32)>,
+    numbers: &[u32],
     batches: &Vec<BatchRow>,
     legs: &Legs,
     served: usize,
     mark: u64,
 )
-    requires served { served ≤ length queue.now.items }
-    requires endable { All (IsEndable batches.now.items (length producers.now)) queue.now.items }
-    requires room { length journal.old.acked.rows + length (served_alone batches.now.items legs.now (take served queue.now.items)) ≤ journal.old.acked.room }
-    ensures noted { journal.new.acked.rows ≡ journal.old.acked.rows ++ filter_map (success producers.now mark) (served_alone batches.now.items legs.now (take served queue.now.items)) }
+    requires served { served ≤ length numbers.now }
+    requires endable { All (IsEndable batches.now.items (length producers.now)) numbers.now }
+    requires room { length journal.old.acked.rows + length (served_alone batches.now.items legs.now (take served numbers.now)) ≤ journal.old.acked.room }
+    ensures noted { journal.new.acked.rows ≡ journal.old.acked.rows ++ filter_map (success producers.now mark) (served_alone batches.now.items legs.now (take served numbers.now)) }
     ensures same_room { journal.new.acked.room ≡ journal.old.acked.room }
     ensures same_steps { journal.new.steps ≡ journal.old.steps }
     ensures same_spare { journal.new.spare ≡ journal.old.spare }
 {
     for i in 0..served {
-        note_batch(journal, producers, queue[i], batches, legs, mark);
+        note_batch(journal, producers, numbers[i], batches, legs, mark);
     }
 }
 
@@ -138,25 +137,25 @@ pub(crate) fn note_alone(
 fn note_batch(
     journal: &mut Journal,
     producers: &[StageNo],
-    unit: (u32, u32),
+    no: u32,
     batches: &Vec<BatchRow>,
     legs: &Legs,
     mark: u64,
 )
-    requires endable { IsEndable batches.now.items (length producers.now) unit }
-    requires room { length journal.old.acked.rows + length (alone_in batches.now.items legs.now unit) ≤ journal.old.acked.room }
-    ensures noted { journal.new.acked.rows ≡ journal.old.acked.rows ++ filter_map (success producers.now mark) (alone_in batches.now.items legs.now unit) }
+    requires endable { IsEndable batches.now.items (length producers.now) no }
+    requires room { length journal.old.acked.rows + length (alone_in batches.now.items legs.now no) ≤ journal.old.acked.room }
+    ensures noted { journal.new.acked.rows ≡ journal.old.acked.rows ++ filter_map (success producers.now mark) (alone_in batches.now.items legs.now no) }
     ensures same_room { journal.new.acked.room ≡ journal.old.acked.room }
     ensures same_steps { journal.new.steps ≡ journal.old.steps }
     ensures same_spare { journal.new.spare ≡ journal.old.spare }
 {
-    if legs.is_sent(BatchNo(unit.1)) {
+    if legs.is_sent(BatchNo(no)) {
         return;
     }
     note_successes(
         journal,
         producers,
-        &batches[(unit.1 - 1) as usize].numbers,
+        &batches[(no - 1) as usize].numbers,
         mark,
     );
 }

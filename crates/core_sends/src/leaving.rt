@@ -1,104 +1,94 @@
-//! The queue of units that wait, without those that were sent.
+//! The buffer of units that wait, without those that were sent.
 
-ghost use Rattle.std.specs.{Prelude.{◌≡◌, ℕ, ◌<◌, ◌≤◌, ◌++◌, ◌∷◌, [], length, All, filter, drop, if◌then◌else◌, true, not, IsTrue, Some}, VecDeque.{deque_len, deque_capacity}};
-ghost use Rattle.core_tables.specs.Tables.{spare_in};
-ghost use Rattle.core_sends.specs.{Batches.{not_sent}, Losing.{still_waits, first_kept, passed}};
+ghost use Rattle.std.specs.Prelude.{◌≡◌, ◌≤◌};
+ghost use Rattle.pipe_types.specs.Stages.{spec_of};
+ghost use Rattle.pipe_model.specs.Flow.{index_in};
+ghost use Rattle.stage_buffer.specs.Waiting.{KeepsShape, without_first};
+ghost use Rattle.core_waits.specs.Waits.{free};
+ghost use Rattle.sent_laws.specs.Taken.{first_number, taken_each, left_each};
+ghost use Rattle.core_sends.specs.Leaving.{part_for, left_by};
 
-use core_tables::place_table::PlaceTable;
-use message_ack::Legs;
-use pipe_types::message::Place;
-use pipe_types::numbers::{BatchNo, StageNo};
+use core_waits::take_first;
+use pipe_types::numbers::SubNo;
 use pipe_types::room::Sent;
-use std::collections::VecDeque;
+use pipe_types::topology::{Dispatch, Topology};
+use stage_buffer::Buffer;
 
-/// The least place that no unit reaches.
-pub(crate) fn reach(units: &[Sent]) -> usize
-    ensures above { All (λ d. d.unit < result) units.now }
-    ensures least { (n : ℕ) → All (λ d. d.unit < n) units.now → result ≤ n }
+/// The part of a stage's buffer from which the subscription's units come: by partition that of its consumer, and else the
+/// only one.
+fn part_for(topology: &Topology, kind: Dispatch, sub: SubNo) -> u32
+    ensures { result ≡ part_for topology.now kind sub }
 {
-    let mut reach = 0;
-    for sent in units {
-        reach = reach.max(sent.unit as usize + 1);
+    match kind {
+        Dispatch::Demand | Dispatch::Broadcast => 0,
+        Dispatch::Partition => index_of(topology, sub),
     }
-    reach
 }
 
-/// Takes the messages out of the stage's queue that do not wait in it any more; all of them stand among the first so many.
-/// The others keep their order.
-pub(crate) fn keep_waiting(
-    queue: &mut VecDeque<(u32, u32)>,
-    places: &PlaceTable,
-    stage: StageNo,
-    first: usize,
+/// The index of the subscription's consumer, and 0 where there is none.
+fn index_of(topology: &Topology, sub: SubNo) -> u32
+    ensures { result ≡ index_in (spec_of topology.now sub.consumer) }
+{
+    match topology.stages.find(sub.consumer) {
+        Some(spec) => u32::from(spec.index),
+        None => 0,
+    }
+}
+
+/// Takes the units out of the stage's buffer, each the first of its subscription's part, and names it by its number.
+pub(crate) fn take_sent(
+    queue: &mut Buffer<u32>,
+    topology: &Topology,
+    kind: Dispatch,
+    units: &mut Vec<Sent>,
 )
-    requires within { first ≤ length queue.old.items }
-    requires rest { All (λ unit. still_waits places.now.items stage unit.1 ≡ true) (drop first queue.old.items) }
-    ensures items { queue.new.items ≡ filter (λ unit. still_waits places.now.items stage unit.1) queue.old.items }
-    ensures room { spare_in (Some queue.old) ≤ spare_in (Some queue.new) }
+    ensures taken { units.new.items ≡ taken_each (part_for topology.now kind) units.old.items queue.old.units }
+    ensures left { queue.new.units ≡ left_each (part_for topology.now kind) units.old.items queue.old.units }
+    ensures shape { KeepsShape queue.old queue.new }
+    ensures room { free queue.old ≤ free queue.new }
 {
-    let mut kept = 0;
-    for k in 0..first {
-        let is_kept = pass(queue, places, stage);
-        kept += usize::from(is_kept);
-    }
-    queue.rotate_right(kept);
-}
-
-/// Takes the first unit out of the queue, and puts it behind the others where it waits in the stage.
-fn pass(queue: &mut VecDeque<(u32, u32)>, places: &PlaceTable, stage: StageNo) -> bool
-    ensures items { queue.new.items ≡ passed (still_waits places.now.items stage) queue.old.items }
-    ensures kept { result ≡ first_kept (still_waits places.now.items stage) queue.old.items }
-    ensures room { spare_in (Some queue.old) ≤ spare_in (Some queue.new) }
-{
-    let Some(unit) = queue.pop_front() else {
-        return false;
-    };
-    if !does_wait(places, stage, unit.1) {
-        return false;
-    }
-    queue.push_back_reserved(unit);
-    true
-}
-
-/// Whether the message with that number waits in the stage.
-fn does_wait(places: &PlaceTable, stage: StageNo, no: u32) -> bool
-    ensures { result ≡ still_waits places.now.items stage no }
-{
-    let at = (no as usize).saturating_sub(1);
-    match places.get(at) {
-        Some(Place::Waiting(here)) => stage.0 == here.0,
-        _ => false,
+    for i in 0..units.len() {
+        let sub = units[i].sub;
+        let unit = take_one(queue, part_for(topology, kind, sub));
+        units[i] = Sent { unit, sub };
     }
 }
 
-/// Takes the batches out of a batcher's queue that were sent; all of them stand among the first so many. The others keep
-/// their order.
-pub(crate) fn keep_unsent(queue: &mut VecDeque<(u32, u32)>, legs: &Legs, first: usize)
-    requires within { first ≤ length queue.old.items }
-    requires rest { All (λ unit. not_sent legs.now unit.1 ≡ true) (drop first queue.old.items) }
-    ensures items { queue.new.items ≡ filter (λ unit. not_sent legs.now unit.1) queue.old.items }
-    ensures room { spare_in (Some queue.old) ≤ spare_in (Some queue.new) }
+/// Takes the first unit of the part out, and answers 0 where there is none.
+fn take_one(queue: &mut Buffer<u32>, part: u32) -> u32
+    ensures unit { result ≡ first_number part queue.old.units }
+    ensures units { queue.new.units ≡ without_first part queue.old.units }
+    ensures shape { KeepsShape queue.old queue.new }
+    ensures room { free queue.old ≤ free queue.new }
 {
-    let mut left = 0;
-    for k in 0..first {
-        let is_kept = pass_unsent(queue, legs);
-        left += usize::from(is_kept);
-    }
-    queue.rotate_right(left);
+    take_first(queue, part).unwrap_or(0)
 }
 
-/// Takes the first batch out of the queue, and puts it behind the others where it was not sent.
-fn pass_unsent(queue: &mut VecDeque<(u32, u32)>, legs: &Legs) -> bool
-    ensures items { queue.new.items ≡ passed (not_sent legs.now) queue.old.items }
-    ensures kept { result ≡ first_kept (not_sent legs.now) queue.old.items }
-    ensures room { spare_in (Some queue.old) ≤ spare_in (Some queue.new) }
+/// Takes the batches that were sent out of the batcher's buffer. One that broadcasts has none left of those that it served.
+pub(crate) fn leave_sent(
+    queue: &mut Buffer<u32>,
+    topology: &Topology,
+    kind: Dispatch,
+    units: &[Sent],
+)
+    ensures left { queue.new.units ≡ left_by topology.now kind units.now queue.old.units }
+    ensures shape { KeepsShape queue.old queue.new }
+    ensures room { free queue.old ≤ free queue.new }
 {
-    let Some(batch) = queue.pop_front() else {
-        return false;
-    };
-    if legs.is_sent(BatchNo(batch.1)) {
-        return false;
+    match kind {
+        Dispatch::Demand => leave_each(queue, topology, kind, units),
+        Dispatch::Broadcast => {}
+        Dispatch::Partition => leave_each(queue, topology, kind, units),
     }
-    queue.push_back_reserved(batch);
-    true
+}
+
+/// Takes each unit out of the buffer, as the first of its subscription's part.
+fn leave_each(queue: &mut Buffer<u32>, topology: &Topology, kind: Dispatch, units: &[Sent])
+    ensures left { queue.new.units ≡ left_each (part_for topology.now kind) units.now queue.old.units }
+    ensures shape { KeepsShape queue.old queue.new }
+    ensures room { free queue.old ≤ free queue.new }
+{
+    for sent in units {
+        let _ = take_first(queue, part_for(topology, kind, sent.sub));
+    }
 }

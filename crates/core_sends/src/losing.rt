@@ -1,60 +1,60 @@
 //! Waiting units that are lost over the size of their stage's buffer.
 
-ghost use Rattle.std.specs.Prelude.{◌≡◌, ℕ, suc, ◌≤◌, ◌<◌, length, All, map, option_map, slice_get, Some, vec_capacity};
-ghost use Rattle.core_tables.specs.Tables.{spare_in};
-ghost use Rattle.core_sends.specs.Losing.{lost_in, lost_over_size, marked, over_from, over_to, between, outside};
+ghost use Rattle.std.specs.Prelude.{◌≡◌, ℕ, suc, ◌≤◌, ◌∷◌, [], length, All, option_map, slice_get, vec_capacity};
+ghost use Rattle.stage_buffer.specs.Waiting.{KeepsShape};
+ghost use Rattle.core_waits.specs.Waits.{free};
+ghost use Rattle.core_sends.specs.Losing.{lost_in, lost_over_size, marked, numbers_in, over_of, kept_of};
 
 use core_tables::place_table::PlaceTable;
+use core_waits::take_over;
 use pipe_types::message::{Loss, Place};
 use pipe_types::numbers::StageNo;
-use pipe_types::topology::Keep;
-use std::collections::VecDeque;
+use stage_buffer::Buffer;
 
-/// The place of the first unit that is over the size, of so many.
-pub(crate) fn first_over(size: Option<u32>, keep: Keep, len: usize) -> usize
-    ensures { result ≡ over_from size keep len }
-{
-    match (size, keep) {
-        (None, _) => len,
-        (Some(_), Keep::Last) => 0,
-        (Some(size), Keep::First) => len.min(size as usize),
-    }
-}
-
-/// The place past the last unit that is over the size, of so many.
-pub(crate) fn end_over(size: Option<u32>, keep: Keep, len: usize) -> usize
-    ensures { result ≡ over_to size keep len }
-{
-    match (size, keep) {
-        (None, _) => len,
-        (Some(size), Keep::Last) => len.saturating_sub(size as usize),
-        (Some(_), Keep::First) => len,
-    }
-}
-
-/// Notes that the messages from one place of the stage's queue to another are lost over its size.
-pub(crate) fn lose_all(
+/// Takes the units over its size out of the stage's buffer. Their messages are lost, and settled by the step with this mark.
+pub(crate) fn lose_over(
+    queue: &mut Buffer<u32>,
     places: &mut PlaceTable,
+    settled: &mut Vec<u64>,
     stage: StageNo,
-    queue: &VecDeque<(u32, u32)>,
-    from: usize,
-    to: usize,
+    mark: u64,
 )
-    requires range { from ≤ to }
-    requires end { to ≤ length queue.now.items }
-    requires within { All (λ unit. (1 ≤ unit.1) × (unit.1 ≤ length places.old.items)) queue.now.items }
-    ensures len { length places.new.items ≡ length places.old.items }
-    ensures placed { (i : ℕ) → slice_get places.new.items i ≡ option_map (lost_over_size (map (λ unit. unit.1) (between from to queue.now.items)) stage (suc i)) (slice_get places.old.items i) }
-    ensures capacity { vec_capacity places.new ≡ vec_capacity places.old }
+    requires placed { All (λ unit. (1 ≤ unit.1) × (unit.1 ≤ length places.old.items)) queue.old.units }
+    requires settled { length settled.old.items ≡ length places.old.items }
+    ensures queue { queue.new.units ≡ kept_of queue.old.size queue.old.keep queue.old.units }
+    ensures places_len { length places.new.items ≡ length places.old.items }
+    ensures placed { (i : ℕ) → slice_get places.new.items i ≡ option_map (lost_over_size (numbers_in (over_of queue.old.size queue.old.keep queue.old.units)) stage (suc i)) (slice_get places.old.items i) }
+    ensures settled_len { length settled.new.items ≡ length settled.old.items }
+    ensures marked { (i : ℕ) → slice_get settled.new.items i ≡ option_map (marked (numbers_in (over_of queue.old.size queue.old.keep queue.old.units)) mark (suc i)) (slice_get settled.old.items i) }
+    ensures shape { KeepsShape queue.old queue.new }
+    ensures room { free queue.old ≤ free queue.new }
+    ensures places_capacity { vec_capacity places.new ≡ vec_capacity places.old }
+    ensures settled_capacity { vec_capacity settled.new ≡ vec_capacity settled.old }
 {
-    for k in from..to {
-        let at = (queue[k].1 - 1) as usize;
-        let place = lost(places.read(at), stage);
-        places.write(at, place);
+    'over: while let Some(no) = take_over(queue) {
+        lose(places, settled, stage, no, mark);
     }
 }
 
-/// Where a message of the stage's queue stands that is over the size.
+/// Notes that the message, where it waits in the stage, is lost over its size, and the step that settled it.
+fn lose(places: &mut PlaceTable, settled: &mut Vec<u64>, stage: StageNo, no: u32, mark: u64)
+    requires least { 1 ≤ no }
+    requires within { no ≤ length places.old.items }
+    requires settled { length settled.old.items ≡ length places.old.items }
+    ensures places_len { length places.new.items ≡ length places.old.items }
+    ensures placed { (i : ℕ) → slice_get places.new.items i ≡ option_map (lost_over_size (no ∷ []) stage (suc i)) (slice_get places.old.items i) }
+    ensures settled_len { length settled.new.items ≡ length settled.old.items }
+    ensures marked { (i : ℕ) → slice_get settled.new.items i ≡ option_map (marked (no ∷ []) mark (suc i)) (slice_get settled.old.items i) }
+    ensures places_capacity { vec_capacity places.new ≡ vec_capacity places.old }
+    ensures settled_capacity { vec_capacity settled.new ≡ vec_capacity settled.old }
+{
+    let at = (no - 1) as usize;
+    let place = lost(places.read(at), stage);
+    places.write(at, place);
+    settled[at] = mark;
+}
+
+/// Where a message of the stage's buffer stands that is over the size.
 fn lost(place: Place, stage: StageNo) -> Place
     ensures { result ≡ lost_in stage place }
 {
@@ -62,34 +62,4 @@ fn lost(place: Place, stage: StageNo) -> Place
         Place::Waiting(here) if stage.0 == here.0 => Place::Lost(Loss::Overflow(stage)),
         _ => place,
     }
-}
-
-/// Notes the step that settled the messages from one place of the queue to another.
-pub(crate) fn mark_all(
-    settled: &mut Vec<u64>,
-    mark: u64,
-    queue: &VecDeque<(u32, u32)>,
-    from: usize,
-    to: usize,
-)
-    requires range { from ≤ to }
-    requires end { to ≤ length queue.now.items }
-    requires within { All (λ unit. (1 ≤ unit.1) × (unit.1 ≤ length settled.old.items)) queue.now.items }
-    ensures len { length settled.new.items ≡ length settled.old.items }
-    ensures marked { (i : ℕ) → slice_get settled.new.items i ≡ option_map (marked (map (λ unit. unit.1) (between from to queue.now.items)) mark (suc i)) (slice_get settled.old.items i) }
-    ensures capacity { vec_capacity settled.new ≡ vec_capacity settled.old }
-{
-    for k in from..to {
-        settled[(queue[k].1 - 1) as usize] = mark;
-    }
-}
-
-/// Takes the units from one place to another out of the queue.
-pub(crate) fn take_out(queue: &mut VecDeque<(u32, u32)>, from: usize, to: usize)
-    requires range { from ≤ to }
-    requires end { to ≤ length queue.old.items }
-    ensures items { queue.new.items ≡ outside from to queue.old.items }
-    ensures room { spare_in (Some queue.old) ≤ spare_in (Some queue.new) }
-{
-    queue.drain(from..to);
 }

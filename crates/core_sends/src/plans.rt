@@ -94,7 +94,7 @@ fn plan_picked(core: &Core, stage: StageNo) -> Result<BatchPlan, AllocError>
     ensures served { IfOk result (λ p. p.served ≡ served_first core.now.topology core.now.journal.steps stage) }
 {
     let rooms = rooms_of(core, stage)?;
-    let waiting = core.waiting[stage.0 as usize].len();
+    let waiting = core.waiting[stage.0 as usize].len() as usize;
     let mut count = FIRST_LOOK.min(waiting);
     let mut plan = plan_first(core, stage, &rooms, count)?;
     'look: while looks_on(&plan, count, waiting) {

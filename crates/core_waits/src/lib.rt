@@ -5,7 +5,7 @@
 //! `make_room` takes memory or lowers what it says by more than the units that come.
 #![tactic(auto)]
 
-ghost use Rattle.std.specs.Prelude.{◌≡◌, ℕ, ◌+◌, ◌∷◌, [], ◌++◌, ◌<◌, ◌≤◌, length, map, drop, slice_get, if◌then◌else◌, ◌==◌, true, false, OnOk, IfOk, IfSome};
+ghost use Rattle.std.specs.Prelude.{◌≡◌, ℕ, ◌+◌, ◌∷◌, [], ◌++◌, ◌<◌, ◌≤◌, length, map, drop, slice_get, option_map, if◌then◌else◌, ◌==◌, true, false, OnOk, IfOk, IfSome};
 ghost use Rattle.pipe_types.specs.declared.numbers.StageNo.{StageNo as Stage};
 ghost use Rattle.stage_buffer.specs.Waiting.{KeepsShape, units_of_part, without_first, over_unit, without_over};
 ghost use Rattle.core_waits.specs.Waits.{numbers_left, free, units_at, free_at, shape_of, shape_at, parts_by, shape_for, no_shape, seen, new_for};
@@ -103,12 +103,13 @@ pub fn take_over(queue: &mut Buffer<u32>) -> Option<u32>
 }
 
 /// Takes the oldest unit of all out.
-fn drop_oldest(queue: &mut Buffer<u32>)
+pub fn take_oldest(queue: &mut Buffer<u32>) -> Option<u32>
+    ensures unit { result ≡ option_map (λ u. u.1) (slice_get queue.old.units 0) }
     ensures units { queue.new.units ≡ drop 1 queue.old.units }
     ensures shape { KeepsShape queue.old queue.new }
     ensures rooms { free queue.old ≤ free queue.new }
 {
-    let _ = queue.pop();
+    queue.pop()
 }
 
 /// Takes all units out.
@@ -118,7 +119,7 @@ pub fn empty(queue: &mut Buffer<u32>)
     ensures rooms { free queue.old ≤ free queue.new }
 {
     for k in 0..queue.len() {
-        drop_oldest(queue);
+        let _ = take_oldest(queue);
     }
 }
 

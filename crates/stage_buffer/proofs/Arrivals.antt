@@ -103,66 +103,66 @@ only_one (x ∷ xs) (y ∷ ys) rising sorted alike =
         omega (arith, whole, counted_none x.at f ys none_more, upto_here x.at f y low)
 
     same : y ≡ x
-    same = λ i. record { at = weighs_alike (λ a. a.at) i; part = weighs_alike (λ a. a.part) i }
+    same = λ i. record { at = weighs_alike (λ a. a.at) i; value = weighs_alike (λ a. a.value) i }
 
 module _ {X : Type 0} where
-  abbrev arrival_in : Entry X → Arrival
-  arrival_in e = record { at = e.at; part = e.part }
+  abbrev arrival_in : (ℕ → X → ℕ) → Entry X → Arrival
+  arrival_in v e = record { at = e.at; value = v e.part e.unit }
 
-  inserted : (f : Arrival → ℕ) (e : Entry X) (es : List (Entry X)) → total f (map arrival_in (insert e es)) ≡ f (arrival_in e) + total f (map arrival_in es)
-  inserted f e [] = refl
-  inserted f e (x ∷ xs) = either (nat_lt e.at x.at) (inserted f e xs)
+  inserted : (v : ℕ → X → ℕ) (f : Arrival → ℕ) (e : Entry X) (es : List (Entry X)) → total f (map (arrival_in v) (insert e es)) ≡ f (arrival_in v e) + total f (map (arrival_in v) es)
+  inserted v f e [] = refl
+  inserted v f e (x ∷ xs) = either (nat_lt e.at x.at) (inserted v f e xs)
     where
-      either : (b : Bool) → total f (map arrival_in (insert e xs)) ≡ f (arrival_in e) + total f (map arrival_in xs) → total f (map arrival_in (if b then e ∷ x ∷ xs else x ∷ insert e xs)) ≡ f (arrival_in e) + (f (arrival_in x) + total f (map arrival_in xs))
+      either : (b : Bool) → total f (map (arrival_in v) (insert e xs)) ≡ f (arrival_in v e) + total f (map (arrival_in v) xs) → total f (map (arrival_in v) (if b then e ∷ x ∷ xs else x ∷ insert e xs)) ≡ f (arrival_in v e) + (f (arrival_in v x) + total f (map (arrival_in v) xs))
       either true deep = refl
       either false deep = omega (arith, deep)
 
-  inserted_all : (f : Arrival → ℕ) (part : ℕ) (ring : List (Arrived X)) (es : List (Entry X)) → total f (map arrival_in (insert_all part ring es)) ≡ total f (arrivals_of part ring) + total f (map arrival_in es)
-  inserted_all f part [] es = omega arith
-  inserted_all f part (a ∷ ring) es = omega (arith, inserted f (entry part a) (insert_all part ring es), inserted_all f part ring es)
+  inserted_all : (v : ℕ → X → ℕ) (f : Arrival → ℕ) (part : ℕ) (ring : List (Arrived X)) (es : List (Entry X)) → total f (map (arrival_in v) (insert_all part ring es)) ≡ total f (arrivals_of v part ring) + total f (map (arrival_in v) es)
+  inserted_all v f part [] es = omega arith
+  inserted_all v f part (a ∷ ring) es = omega (arith, inserted v f (entry part a) (insert_all part ring es), inserted_all v f part ring es)
 
-  alike_rings : (f : Arrival → ℕ) (part : ℕ) (rings : List (Buffer (Arrived X))) → total f (arrivals_from part rings) ≡ total f (map arrival_in (in_order part rings))
-  alike_rings f part [] = refl
-  alike_rings f part (ring ∷ rings) =
+  alike_rings : (v : ℕ → X → ℕ) (f : Arrival → ℕ) (part : ℕ) (rings : List (Buffer (Arrived X))) → total f (arrivals_from v part rings) ≡ total f (map (arrival_in v) (in_order part rings))
+  alike_rings v f part [] = refl
+  alike_rings v f part (ring ∷ rings) =
       omega (
         arith,
-        total-append f (arrivals_of part ring.items) (arrivals_from (suc part) rings),
-        inserted_all f part ring.items (in_order (suc part) rings),
-        alike_rings f (suc part) rings,
+        total-append f (arrivals_of v part ring.items) (arrivals_from v (suc part) rings),
+        inserted_all v f part ring.items (in_order (suc part) rings),
+        alike_rings v f (suc part) rings,
       )
 
-  after_in : (n : ℕ) (es : List (Entry X)) → AreAfter n es → AllAfter n (map arrival_in es)
-  after_in n [] h = tt
-  after_in n (e ∷ es) h = (h.0, after_in n es h.1)
+  after_in : (v : ℕ → X → ℕ) (n : ℕ) (es : List (Entry X)) → AreAfter n es → AllAfter n (map (arrival_in v) es)
+  after_in v n [] h = tt
+  after_in v n (e ∷ es) h = (h.0, after_in v n es h.1)
 
-  rising_in : (es : List (Entry X)) → AreAscending es → IsRising (map arrival_in es)
-  rising_in [] h = tt
-  rising_in (e ∷ es) h = (after_in e.at es h.0, rising_in es h.1)
+  rising_in : (v : ℕ → X → ℕ) (es : List (Entry X)) → AreAscending es → IsRising (map (arrival_in v) es)
+  rising_in v [] h = tt
+  rising_in v (e ∷ es) h = (after_in v e.at es h.0, rising_in v es h.1)
 
-  parts_in : (es : List (Entry X)) → map (λ (a : Arrival). a.part) (map arrival_in es) ≡ map (λ (u : ℕ × X). u.0) (map pair_of es)
-  parts_in [] = refl
-  parts_in (e ∷ es) = ap (λ (ns : List ℕ). e.part ∷ ns) (parts_in es)
+  parts_in : (v : ℕ → X → ℕ) (es : List (Entry X)) → map (λ (a : Arrival). a.value) (map (arrival_in v) es) ≡ map (λ (u : ℕ × X). v u.0 u.1) (map pair_of es)
+  parts_in v [] = refl
+  parts_in v (e ∷ es) = ap (λ (ns : List ℕ). v e.part e.unit ∷ ns) (parts_in v es)
 
-  -- the parts of all units, sorted by when they arrived, are those of the list
-  pub parts_sorted : (rings : List (Buffer (Arrived X))) (arrivals sorted : List Arrival) (parts : List ℕ) → AreAscending (in_order 0 rings) → arrivals ≡ arrivals_from 0 rings → IsPermutation arrivals sorted → IsNonDecreasingBy (λ (a : Arrival). a.at) sorted → parts ≡ map (λ (a : Arrival). a.part) sorted → parts ≡ map (λ (u : ℕ × X). u.0) (map pair_of (in_order 0 rings))
-  parts_sorted rings arrivals sorted parts ascending are moved rises is =
-      let alike : Alike sorted (map arrival_in (in_order 0 rings)) =
-      λ f. alike_moved arrivals sorted moved f ∙ (ap (total f) are ∙ alike_rings f 0 rings) in
-      is ∙ (ap (map (λ (a : Arrival). a.part)) (only_one (map arrival_in (in_order 0 rings)) sorted (rising_in (in_order 0 rings) ascending) rises alike)
-      ∙ parts_in (in_order 0 rings))
+  -- the values of all units, sorted by when they arrived, are those of the list
+  pub values_sorted : (v : ℕ → X → ℕ) (rings : List (Buffer (Arrived X))) (arrivals sorted : List Arrival) (values : List ℕ) → AreAscending (in_order 0 rings) → arrivals ≡ arrivals_from v 0 rings → IsPermutation arrivals sorted → IsNonDecreasingBy (λ (a : Arrival). a.at) sorted → values ≡ map (λ (a : Arrival). a.value) sorted → values ≡ map (λ (u : ℕ × X). v u.0 u.1) (map pair_of (in_order 0 rings))
+  values_sorted v rings arrivals sorted values ascending are moved rises is =
+      let alike : Alike sorted (map (arrival_in v) (in_order 0 rings)) =
+      λ f. alike_moved arrivals sorted moved f ∙ (ap (total f) are ∙ alike_rings v f 0 rings) in
+      is ∙ (ap (map (λ (a : Arrival). a.value)) (only_one (map (arrival_in v) (in_order 0 rings)) sorted (rising_in v (in_order 0 rings) ascending) rises alike)
+      ∙ parts_in v (in_order 0 rings))
 
   -- one ring more
-  from_more : (k part : ℕ) (rings : List (Buffer (Arrived X))) (d : Buffer (Arrived X)) → k ≡ part + length rings → arrivals_from part (rings ++ d ∷ []) ≡ arrivals_from part rings ++ arrivals_of k d.items
-  from_more k part [] d is = ap (λ (n : ℕ). arrivals_of n d.items ++ []) (sym (is ∙ omega arith)) ∙ append-nil (arrivals_of k d.items)
-  from_more k part (ring ∷ rings) d is =
-      ap (λ (xs : List Arrival). arrivals_of part ring.items ++ xs) (from_more k (suc part) rings d (omega arith))
-      ∙ sym (append_assoc (arrivals_of part ring.items) (arrivals_from (suc part) rings) (arrivals_of k d.items))
+  from_more : (v : ℕ → X → ℕ) (k part : ℕ) (rings : List (Buffer (Arrived X))) (d : Buffer (Arrived X)) → k ≡ part + length rings → arrivals_from v part (rings ++ d ∷ []) ≡ arrivals_from v part rings ++ arrivals_of v k d.items
+  from_more v k part [] d is = ap (λ (n : ℕ). arrivals_of v n d.items ++ []) (sym (is ∙ omega arith)) ∙ append-nil (arrivals_of v k d.items)
+  from_more v k part (ring ∷ rings) d is =
+      ap (λ (xs : List Arrival). arrivals_of v part ring.items ++ xs) (from_more v k (suc part) rings d (omega arith))
+      ∙ sym (append_assoc (arrivals_of v part ring.items) (arrivals_from v (suc part) rings) (arrivals_of v k d.items))
 
-  pub ring_added : (rings : List (Buffer (Arrived X))) (k : ℕ) (d : Buffer (Arrived X)) (front back : List (Arrived X)) (old mid new : List Arrival) → k < length rings → d ≡ get_or rings k d → front ++ back ≡ d.items → mid ≡ old ++ arrivals_of k front → new ≡ mid ++ arrivals_of k back → old ≡ arrivals_from 0 (take k rings) → new ≡ arrivals_from 0 (take (k + 1) rings)
-  ring_added rings k d front back old mid new within is whole first second before =
+  pub ring_added : (v : ℕ → X → ℕ) (rings : List (Buffer (Arrived X))) (k : ℕ) (d : Buffer (Arrived X)) (front back : List (Arrived X)) (old mid new : List Arrival) → k < length rings → d ≡ get_or rings k d → front ++ back ≡ d.items → mid ≡ old ++ arrivals_of v k front → new ≡ mid ++ arrivals_of v k back → old ≡ arrivals_from v 0 (take k rings) → new ≡ arrivals_from v 0 (take (k + 1) rings)
+  ring_added v rings k d front back old mid new within is whole first second before =
       second
-      ∙ ap (λ (xs : List Arrival). xs ++ arrivals_of k back) (first ∙ ap (λ (xs : List Arrival). xs ++ arrivals_of k front) before)
-      ∙ append_assoc (arrivals_from 0 (take k rings)) (arrivals_of k front) (arrivals_of k back)
-      ∙ ap (λ (xs : List Arrival). arrivals_from 0 (take k rings) ++ xs) (sym (map-append (λ (a : Arrived X). record { at = a.at; part = k }) front back) ∙ ap (arrivals_of k) whole)
-      ∙ sym (from_more k 0 (take k rings) d (let long : length (take k rings) ≡ k = omega (arith, length-take k rings) in omega arith))
-      ∙ ap (arrivals_from 0) (sym (take_more rings k d within ∙ ap (λ (b : Buffer (Arrived X)). take k rings ++ b ∷ []) (sym is)))
+      ∙ ap (λ (xs : List Arrival). xs ++ arrivals_of v k back) (first ∙ ap (λ (xs : List Arrival). xs ++ arrivals_of v k front) before)
+      ∙ append_assoc (arrivals_from v 0 (take k rings)) (arrivals_of v k front) (arrivals_of v k back)
+      ∙ ap (λ (xs : List Arrival). arrivals_from v 0 (take k rings) ++ xs) (sym (map-append (λ (a : Arrived X). record { at = a.at; value = v k a.unit }) front back) ∙ ap (arrivals_of v k) whole)
+      ∙ sym (from_more v k 0 (take k rings) d (let long : length (take k rings) ≡ k = omega (arith, length-take k rings) in omega arith))
+      ∙ ap (arrivals_from v 0) (sym (take_more rings k d within ∙ ap (λ (b : Buffer (Arrived X)). take k rings ++ b ∷ []) (sym is)))

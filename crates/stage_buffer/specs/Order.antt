@@ -84,14 +84,17 @@ module _ {X : Type 0} where
     pub below : AreBelow arrived (in_order 0 rings)
     pub counted : length (in_order 0 rings) ≡ len
 
-  -- when units of a part arrived
-  abbrev pub arrivals_of : (part : ℕ) → List (Arrived X) → List Arrival
-  arrivals_of part units = map (λ a. record { at = a.at; part = part }) units
+  -- when units of a part arrived, each with a value of its part and itself
+  abbrev pub arrivals_of : (value : ℕ → X → ℕ) → (part : ℕ) → List (Arrived X) → List Arrival
+  arrivals_of value part units = map (λ a. record { at = a.at; value = value part a.unit }) units
 
   -- when the units of the rings from this part on arrived, one ring after the other
-  abbrev pub arrivals_from : (part : ℕ) → List (Buffer (Arrived X)) → List Arrival
-  arrivals_from part [] = []
-  arrivals_from part (ring ∷ rings) = arrivals_of part ring.items ++ arrivals_from (suc part) rings
+  abbrev pub arrivals_from : (value : ℕ → X → ℕ) → (part : ℕ) → List (Buffer (Arrived X)) → List Arrival
+  arrivals_from value part [] = []
+  arrivals_from value part (ring ∷ rings) = arrivals_of value part ring.items ++ arrivals_from value (suc part) rings
+
+  abbrev pub part_of : (part : ℕ) → X → ℕ
+  part_of part unit = part
 
   abbrev pub spare_at : List (Buffer (Arrived X)) → (part : ℕ) → ℕ
   spare_at rings p = slice_index_or (map spare_in rings) p 0
@@ -137,6 +140,9 @@ module _ {X : Type 0} where
 
   abbrev pub back_at : List (Buffer (Arrived X)) → (part : ℕ) → Option ℕ
   back_at rings p = option_map (λ a. a.at) (slice_get (items_at rings p) (length (items_at rings p) - 1))
+
+abbrev pub number_in : (part : ℕ) → ℕ → ℕ
+number_in part unit = unit
 
 -- the one of the two that came first
 abbrev pub earlier_of : Option (ℕ × ℕ) → (part : ℕ) → (end : Option ℕ) → Option (ℕ × ℕ)

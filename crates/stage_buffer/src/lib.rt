@@ -2,13 +2,13 @@
 //!
 //! A contract sees the list of (part, unit) with the number of parts, the size and which end is kept, for each part how
 //! many units it takes without more memory, and how many units ever arrived. `push` alone lowers a `spare`, that of its
-//! part by at most 1. `new`, `reserve` and `parts` alone take memory.
+//! part by at most 1. `new`, `reserve`, `parts` and `numbers` alone take memory.
 #![tactic(auto)]
 
 ghost use Rattle.std.specs.Prelude.{◌≡◌, ℕ, ◌+◌, ◌-◌, ◌<◌, ◌≤◌, ◌^◌, ◌++◌, ◌∷◌, [], length, map, take, drop, option_map, slice_get, option_copied, OnOk, IfOk, OnErr, IfSome, IsNone, if◌then◌else◌, ◌==◌};
 ghost use Rattle.std.specs.List.{list_any};
 ghost use Rattle.stage_buffer.specs.Waiting.{Waiting, units_of_part, without_first, spare_of, end_of, without_end, over_unit, without_over, waits, KeepsShape, KeepsSpare};
-ghost use Rattle.stage_buffer.specs.Order.{Orders, Becomes, HoldsSame, KeepsRoom, AreBelow, IsEarliest, IsLatest, entry, in_order, items_at, spare_at, remove, unit_of, unit_in, number_of, front_at, back_at, earlier_of, later_of, arrivals_of, arrivals_from};
+ghost use Rattle.stage_buffer.specs.Order.{Orders, Becomes, HoldsSame, KeepsRoom, AreBelow, IsEarliest, IsLatest, entry, in_order, items_at, spare_at, remove, unit_of, unit_in, number_of, front_at, back_at, earlier_of, later_of, part_of, number_in, arrivals_of, arrivals_from};
 
 use circular_buffer::HeapCircularBuffer;
 use pipe_types::list::ListOf;
@@ -23,11 +23,11 @@ struct Arrived<T> {
     unit: T,
 }
 
-/// When a unit arrived, and its part.
+/// When a unit arrived, with its part or its number.
 #[derive(Clone, Copy)]
 struct Arrival {
     at: u64,
-    part: u32,
+    value: u32,
 }
 
 /// The parts of units, in order.
@@ -133,7 +133,7 @@ impl<T: Drop> Buffer<T> {
         let alloc = *self.rings.allocator();
         let mut arrivals = arrivals_in(alloc, &self.rings)?;
         arrivals.sort_unstable_by_key(|arrival| arrival.at);
-        let items = parts_of(alloc, &arrivals)?;
+        let items = values_of(alloc, &arrivals)?;
         Ok(PartList::from_vec(items))
     }
 
@@ -211,6 +211,16 @@ impl<T: Drop> Buffer<T> {
 }
 
 impl Buffer<u32> {
+    /// All units, in order of arrival.
+    pub fn numbers(&self) -> Result<Vec<u32>, AllocError>
+        ensures { IfOk result (λ numbers. numbers.items ≡ map (λ u. u.1) self.now.units) }
+    {
+        let alloc = *self.rings.allocator();
+        let mut arrivals = numbered_in(alloc, &self.rings)?;
+        arrivals.sort_unstable_by_key(|arrival| arrival.at);
+        values_of(alloc, &arrivals)
+    }
+
     /// Whether the unit waits.
     pub fn contains(&self, unit: u32) -> bool
         ensures { result ≡ waits unit self.now.units }
@@ -250,7 +260,7 @@ fn arrivals_in<T>(
     rings: &[HeapCircularBuffer<Arrived<T>>],
 ) -> Result<Vec<Arrival>, AllocError>
     requires { length rings.now < 2 ^ 32 }
-    ensures { IfOk result (λ arrivals. arrivals.items ≡ arrivals_from 0 rings.now) }
+    ensures { IfOk result (λ arrivals. arrivals.items ≡ arrivals_from part_of 0 rings.now) }
 {
     let mut arrivals = Vec::new(alloc);
     for (part, ring) in rings.iter().enumerate() {
@@ -267,22 +277,51 @@ fn add_arrivals<T>(
     part: u32,
     units: &[Arrived<T>],
 ) -> Result<(), AllocError>
-    ensures { OnOk result (arrivals.new.items ≡ arrivals.old.items ++ arrivals_of part units.now) }
+    ensures { OnOk result (arrivals.new.items ≡ arrivals.old.items ++ arrivals_of part_of part units.now) }
 {
     for arrived in units {
         arrivals.push(Arrival {
             at: arrived.at,
-            part,
+            value: part,
         })?;
     }
     Ok(())
 }
 
-/// The parts of these arrivals, in their order.
-fn parts_of(alloc: Global, arrivals: &[Arrival]) -> Result<Vec<u32>, AllocError>
-    ensures { IfOk result (λ parts. parts.items ≡ map (λ a. a.part) arrivals.now) }
+/// When the units of the rings arrived, with their numbers, one ring after the other.
+fn numbered_in(
+    alloc: Global,
+    rings: &[HeapCircularBuffer<Arrived<u32>>],
+) -> Result<Vec<Arrival>, AllocError>
+    ensures { IfOk result (λ arrivals. arrivals.items ≡ arrivals_from number_in 0 rings.now) }
 {
-    arrivals.iter().map(|arrival| arrival.part).collect(alloc)
+    let mut arrivals = Vec::new(alloc);
+    for (part, ring) in rings.iter().enumerate() {
+        let (front, back) = ring.as_slices();
+        add_numbered(&mut arrivals, front)?;
+        add_numbered(&mut arrivals, back)?;
+    }
+    Ok(arrivals)
+}
+
+/// Adds when these units arrived, with their numbers. After an `Err` some of them may stand in the list.
+fn add_numbered(arrivals: &mut Vec<Arrival>, units: &[Arrived<u32>]) -> Result<(), AllocError>
+    ensures { (part : ℕ) → OnOk result (arrivals.new.items ≡ arrivals.old.items ++ arrivals_of number_in part units.now) }
+{
+    for arrived in units {
+        arrivals.push(Arrival {
+            at: arrived.at,
+            value: arrived.unit,
+        })?;
+    }
+    Ok(())
+}
+
+/// The values of these arrivals, in their order.
+fn values_of(alloc: Global, arrivals: &[Arrival]) -> Result<Vec<u32>, AllocError>
+    ensures { IfOk result (λ values. values.items ≡ map (λ a. a.value) arrivals.now) }
+{
+    arrivals.iter().map(|arrival| arrival.value).collect(alloc)
 }
 
 /// The unit of an arrival.

@@ -1,16 +1,16 @@
 use Rattle.std.proofs.Common.{rules, ◌∙◌, ap, map}
 use Rattle.std.proofs.lemmas.List.Sorted.{IsNonDecreasingBy-from_sort_by_key}
 use Rattle.stage_buffer.specs.declared.Arrival.{Arrival}
-use Rattle.stage_buffer.specs.Order.{arrivals_from}
-use Rattle.stage_buffer.proofs.Arrivals.{parts_sorted}
+use Rattle.stage_buffer.specs.Order.{arrivals_from, part_of}
+use Rattle.stage_buffer.proofs.Arrivals.{values_sorted}
 use Rattle.stage_buffer.proofs.Buffer.parts.Goals as goal
 
 pub returns : goal.returns
 returns g c =
     rw (← c.self.view_is)
     (c.from_vec.ensures
-    ∙ parts_sorted c.self.inside.rings.items c.in_ok-arrivals.arrivals.items c.sort_unstable_by_key.new.self.items c.in_ok-items.items.items c.self.invariant.orders.ascending
-    (c.in_ok-arrivals.ensures ∙ ap (arrivals_from 0) c.deref.ensures.value)
+    ∙ values_sorted part_of c.self.inside.rings.items c.in_ok-arrivals.arrivals.items c.sort_unstable_by_key.new.self.items c.in_ok-items.items.items c.self.invariant.orders.ascending
+    (c.in_ok-arrivals.ensures ∙ ap (arrivals_from part_of 0) c.deref.ensures.value)
     c.sort_unstable_by_key.ensures.permutation
     (IsNonDecreasingBy-from_sort_by_key (λ (a : Arrival). a.at) _ c.sort_unstable_by_key.ensures.sorted (λ a r f q. search rules))
-    (c.in_ok-items.ensures ∙ ap (map (λ (a : Arrival). a.part)) c.deref-2.ensures.value))
+    (c.in_ok-items.ensures ∙ ap (map (λ (a : Arrival). a.value)) c.deref-2.ensures.value))
