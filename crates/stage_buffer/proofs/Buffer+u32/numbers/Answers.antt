@@ -1,4 +1,5 @@
-use Rattle.std.proofs.Common.{rules, ◌∙◌, ap, map}
+use Rattle.std.proofs.Common.{rules, ◌≡◌, ◌∙◌, ap, map, refl, subst, List, ℕ}
+use Rattle.std.specs.Prelude.{IfOk}
 use Rattle.std.proofs.lemmas.List.Sorted.{IsNonDecreasingBy-from_sort_by_key}
 use Rattle.stage_buffer.specs.declared.Arrival.{Arrival}
 use Rattle.stage_buffer.specs.Order.{arrivals_from, number_in}
@@ -8,8 +9,10 @@ use Rattle.stage_buffer.proofs.Buffer+u32.numbers.Goals as goal
 pub returns : goal.returns
 returns c =
     rw (← c.self.view_is)
-    (values_sorted number_in c.self.inside.rings.items c.in_ok-arrivals.arrivals.items c.sort_unstable_by_key.new.self.items c.result.items c.self.invariant.orders.ascending
+    (subst (λ (ns : List ℕ). IfOk c.values_of.result (λ numbers. numbers.items ≡ ns))
+    (ap (map (λ (a : Arrival). a.value)) c.deref-2.ensures.value
+    ∙ values_sorted number_in c.self.inside.rings.items c.in_ok-arrivals.arrivals.items c.sort_unstable_by_key.new.self.items (map (λ (a : Arrival). a.value) c.sort_unstable_by_key.new.self.items) c.self.invariant.orders.ascending
     (c.in_ok-arrivals.ensures ∙ ap (arrivals_from number_in 0) c.deref.ensures.value)
     c.sort_unstable_by_key.ensures.permutation
-    (IsNonDecreasingBy-from_sort_by_key (λ (a : Arrival). a.at) _ c.sort_unstable_by_key.ensures.sorted (λ a r f q. search rules))
-    (c.values_of.ensures ∙ ap (map (λ (a : Arrival). a.value)) c.deref-2.ensures.value))
+    (IsNonDecreasingBy-from_sort_by_key (λ (a : Arrival). a.at) _ c.sort_unstable_by_key.ensures.sorted (λ a r f q. search rules)) refl)
+    c.values_of.ensures)
