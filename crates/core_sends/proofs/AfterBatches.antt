@@ -1,9 +1,12 @@
 -- The fields after a dispatch of a batcher.
-use Rattle.std.proofs.Common.{◌≡◌, ◌≢◌, ℕ, suc, ◌≤◌, List, ◌∷◌, ◌++◌, length, set, map, true, ap, sym, ◌∙◌, Some, Option}
+use Rattle.std.proofs.Common.{◌≡◌, ◌≢◌, ℕ, suc, ◌<◌, List, ◌∷◌, ◌++◌, length, set, map, true, ap, sym, ◌∙◌, Some, Option}
 use Rattle.std.specs.Prelude.{option_map, if◌then◌else◌, ◌==◌, ◌⊎◌, filter, slice_get, not, ◌&&◌}
 use Rattle.std.specs.declared.alloc.Global.{Global}
 use Rattle.std.specs.declared.vec.Vec.{Vec}
 use Rattle.std.specs.declared.collections.VecDeque.{VecDeque}
+use Rattle.stage_buffer.specs.Waiting.{Waiting, KeepsShape}
+use Rattle.core_waits.specs.Waits.{shape_at}
+use Rattle.core_waits.proofs.Columns.{shapes_same}
 use Rattle.std.proofs.lemmas.List.{length-set}
 use Rattle.pipe_types.specs.declared.numbers.StageNo.{StageNo}
 use Rattle.pipe_types.specs.declared.numbers.SubNo.{SubNo}
@@ -31,14 +34,15 @@ use Rattle.core_sends.specs.Batches.{closed_at, subs_at, messages_of, with_legs,
 use Rattle.core_sends.proofs.AfterSending.{pairs_counted, queues_left}
 use Rattle.core_sends.proofs.BatchesSent.{AreBegun, legs_now, unsent_queue, places_now, marks_now, row_subs, row_subs_same}
 use Rattle.core_sends.proofs.Sent.{pair}
-use Rattle.core_state.proofs.Parts.{Part, BatchesAre, BatchesLen, ChunksAre, InboxesAre, InboxesLen, LegsAre, OpensAre, PlacesAre, PlacesLen, SentOnAre, SettledAre, SettledLen, SubsAre, TotalsAre, WaitingAre, WaitingLen, Says, unchanged, fields_of}
+use Rattle.core_state.proofs.Parts.{Part, BatchesAre, BatchesLen, ChunksAre, InboxesAre, InboxesLen, LegsAre, OpensAre, PlacesAre, PlacesLen, SentOnAre, SettledAre, SettledLen, SubsAre, TotalsAre, WaitingAre, WaitingLen, WaitingSet, Says, unchanged, fields_of}
 
 -- what the passes make of the tables
-pub record BatchPasses (core : Core) (s : StageNo) (units : List Sent) (lone : List ℕ) (tick : ℕ) (old : List (ℕ × ℕ)) (subs : List (Option PairRow))
-    (queues : Vec (VecDeque (ℕ × ℕ) Global) Global) (inboxes : Vec (VecDeque (SubNo × ℕ) Global) Global) (batches : Vec BatchRow Global) (legs : List (ℕ × Ends)) (places : Vec Place Global) (settled : Vec ℕ Global) (q : VecDeque (ℕ × ℕ) Global) : Type 0 where
+pub record BatchPasses (core : Core) (s : StageNo) (units : List Sent) (lone : List ℕ) (tick : ℕ) (held : Waiting ℕ) (subs : List (Option PairRow))
+    (queues : Vec (Waiting ℕ) Global) (inboxes : Vec (VecDeque (SubNo × ℕ) Global) Global) (batches : Vec BatchRow Global) (legs : List (ℕ × Ends)) (places : Vec Place Global) (settled : Vec ℕ Global) (q : Waiting ℕ) : Type 0 where
   pub counted : (c p : StageNo) → row_at subs c p ≡ option_map (sent_more (count_between units c p)) (row_at core.subs c p)
   pub queue : queues.items ≡ set core.waiting.items s.0 q
-  pub kept : q.items ≡ filter (λ unit. not_sent legs unit.1 && not (among lone unit.1)) old
+  pub kept : q.units ≡ filter (λ unit. not_sent legs unit.1 && not (among lone unit.1)) held.units
+  pub shape : KeepsShape held q
   pub placed : (i : ℕ) → slice_get places.items i ≡ option_map (all_succeeded (numbers_of core.batches.items) lone (suc i)) (slice_get core.places.items i)
   pub all_places : length places.items ≡ length core.places.items
   pub marks : (i : ℕ) → slice_get settled.items i ≡ option_map (all_marked (numbers_of core.batches.items) lone tick (suc i)) (slice_get core.settled.items i)
@@ -56,13 +60,13 @@ pub are_begun : (core : Core) (topology : Topology) (before : History) (s : Stag
 are_begun core topology before s units legs is begun =
     record { begun = λ i. begun i ∙ ap (λ us. with_legs (messages_of core.batches.items (suc i)) (subs_of us (suc i)) (sent_in core.legs (suc i))) is }
 
-pub batch_fields : (core : Core) (topology : Topology) (before : History) (s : StageNo) (units : List Sent) (lone : List ℕ) (tick : ℕ) (old : List (ℕ × ℕ)) (j : Recorded)
-    (subs : List (Option PairRow)) (queues : Vec (VecDeque (ℕ × ℕ) Global) Global) (inboxes : Vec (VecDeque (SubNo × ℕ) Global) Global) (batches : Vec BatchRow Global) (legs : List (ℕ × Ends)) (places : Vec Place Global) (settled : Vec ℕ Global) (q : VecDeque (ℕ × ℕ) Global)
+pub batch_fields : (core : Core) (topology : Topology) (before : History) (s : StageNo) (units : List Sent) (lone : List ℕ) (tick : ℕ) (held : Waiting ℕ) (j : Recorded)
+    (subs : List (Option PairRow)) (queues : Vec (Waiting ℕ) Global) (inboxes : Vec (VecDeque (SubNo × ℕ) Global) Global) (batches : Vec BatchRow Global) (legs : List (ℕ × Ends)) (places : Vec Place Global) (settled : Vec ℕ Global) (q : Waiting ℕ)
     → Fields core topology before → IsSound topology → is_legal topology before ≡ true → allows topology before (Dispatch s) ≡ true → is_batcher (spec_of topology s) ≡ true
-    → DispatchLaws topology before s → s.0 ≤ length topology.stages → units ≡ deliveries topology before s → lone ≡ alone topology before s → tick ≡ length before → old ≡ waiting_parts topology before s
-    → BatchPasses core s units lone tick old subs queues inboxes batches legs places settled q
+    → DispatchLaws topology before s → s.0 < length core.waiting.items → slice_get core.waiting.items s.0 ≡ Some held → units ≡ deliveries topology before s → lone ≡ alone topology before s → tick ≡ length before → held.units ≡ waiting_parts topology before s
+    → BatchPasses core s units lone tick held subs queues inboxes batches legs places settled q
     → Fields (record core { journal = j; subs = subs; waiting = queues; inboxes = inboxes; places = places; settled = settled; batches = batches; legs = legs; totals = record core.totals { quiet = 0 } }) topology (Dispatch s ∷ before)
-batch_fields core topology before s units lone tick old j subs queues inboxes batches legs places settled q x sound h allowed batched law within is those now was done = fields_of says
+batch_fields core topology before s units lone tick held j subs queues inboxes batches legs places settled q x sound h allowed batched law within here is those now was done = fields_of says
   where
     says : (it : Part) → Says it (record core { journal = j; subs = subs; waiting = queues; inboxes = inboxes; places = places; settled = settled; batches = batches; legs = legs; totals = record core.totals { quiet = 0 } }) topology (Dispatch s ∷ before)
     says WaitingLen = ap length done.queue ∙ (length-set core.waiting.items s.0 q ∙ x.sized.waiting)
@@ -71,8 +75,9 @@ batch_fields core topology before s units lone tick old j subs queues inboxes ba
     says SettledLen = done.all_settled ∙ x.sized.settled
     says BatchesLen = done.all_batches ∙ x.sized.batches
     says SubsAre = pairs_counted core topology before s units subs x law is done.counted
-    says WaitingAre = queues_left core topology before s queues q x law within done.queue
-        (done.kept ∙ (ap (λ bs. filter (λ (unit : ℕ × ℕ). not_sent legs unit.1 && not (among bs unit.1)) old) those
+    says WaitingSet = λ t spec e. ap (λ ws. shape_at ws t) done.queue ∙ (shapes_same core.waiting.items s held q within here done.shape t ∙ x.set.waiting t spec e)
+    says WaitingAre = queues_left core topology before s queues held q x law within here done.queue
+        (done.kept ∙ (ap (λ bs. filter (λ (unit : ℕ × ℕ). not_sent legs unit.1 && not (among bs unit.1)) held.units) those
         ∙ (ap (filter (λ (unit : ℕ × ℕ). not_sent legs unit.1 && not (among (alone topology before s) unit.1))) was
         ∙ unsent_queue core topology before s legs x sound h allowed batched (are_begun core topology before s units legs is done.begun))))
     says InboxesAre = λ c. done.came c ∙ (ap (λ b. b ++ delivered_to units c) (x.inboxes c) ∙ (ap (λ us. inbox topology before c ++ delivered_to us c) is ∙ sym (law.inbox c)))

@@ -40,8 +40,7 @@ use Rattle.core_sends.specs.Batches.{with_legs, subs_at, subs_seen, messages_of,
 use Rattle.core_sends.specs.Rooms.{planned}
 use Rattle.core_sends.proofs.BatchLegs.{sent_waits, legs_after}
 use Rattle.core_sends.proofs.Begun.{some_sub}
-use Rattle.core_sends.proofs.LeftOver.{filter_map, drop_map}
-use Rattle.core_sends.proofs.Reached.{unreached, each_drop}
+use Rattle.core_sends.proofs.LeftOver.{filter_map}
 use Rattle.core_sends.proofs.Sent.{pair, each_all, over, each_test}
 
 -- a batch that waits in a batcher has no legs
@@ -219,20 +218,6 @@ unsent_queue core topology before s legs x sound h allowed batched are =
         waiting_law topology before (Dispatch s) s sound (both (is_legal topology before) (allows topology before (Dispatch s)) h allowed)
         ∙ (ap (λ b. if b then left_over (deliveries topology before s) (over topology before s) (alone topology before s) (waiting topology before s) else waiting topology before s) (same_stage-self s)
         ∙ ap (λ os. left_over (deliveries topology before s) os (alone topology before s) (waiting topology before s)) ((fits topology sound).unlimited before s batched))
-
--- the batches past the first so many are not sent
-pub rest_unsent : (core : Core) (topology : Topology) (before : History) (s : StageNo) (first : ℕ) (legs : List (ℕ × Ends)) → Fields core topology before → IsSound topology → is_legal topology before ≡ true
-    → is_batcher (spec_of topology s) ≡ true → AreBegun core topology before s legs → All (λ (d : SentUnit). d.unit < first) (planned topology before s [])
-    → All (λ (unit : ℕ × ℕ). not_sent legs unit.1 ≡ true) (drop first (waiting_parts topology before s))
-rest_unsent core topology before s first legs x sound h batched are above =
-    subst (All (λ (unit : ℕ × ℕ). not_sent legs unit.1 ≡ true)) (sym (drop_map (pair topology before s) first (waiting topology before s)))
-    (each_all (λ (unit : ℕ × ℕ). not_sent legs unit.1 ≡ true) (map (pair topology before s) (drop first (waiting topology before s)))
-    (each_map (λ (unit : ℕ × ℕ). not_sent legs unit.1 ≡ true) (pair topology before s) (drop first (waiting topology before s))
-    (each_weaker (λ n. (not_sent legs n ≡ is_empty (subs_of (deliveries topology before s) n)) × (subs_of (deliveries topology before s) n ≡ [])) (λ n. not_sent legs n ≡ true)
-    (λ n p. p.0 ∙ ap is_empty p.1) (drop first (waiting topology before s))
-    (each_both (λ n. not_sent legs n ≡ is_empty (subs_of (deliveries topology before s) n)) (λ n. subs_of (deliveries topology before s) n ≡ []) (drop first (waiting topology before s))
-    (each_drop (λ n. not_sent legs n ≡ is_empty (subs_of (deliveries topology before s) n)) first (waiting topology before s) (each_unsent core topology before s legs x sound h batched are))
-    (unreached topology before s first sound h above)))))
 
 -- The batches alone
 

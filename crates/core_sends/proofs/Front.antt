@@ -1,8 +1,8 @@
 -- What a broadcast serves stands at the front of what waits; other dispatchers serve no batch alone.
-use Rattle.std.proofs.Common.{◌≡◌, ℕ, List, [], ◌∷◌, ◌++◌, map, Bool, true, false, refl, ap, sym, ◌∙◌, cond}
+use Rattle.std.proofs.Common.{◌≡◌, ℕ, List, [], ◌∷◌, ◌++◌, map, Bool, true, false, refl, ap, sym, ◌∙◌, cond, subst}
 use Rattle.std.specs.Prelude.{if◌then◌else◌, ◌&&◌, ◌||◌, ◌==◌, not, filter}
 use Rattle.std.specs.List.{list_any}
-use Rattle.std.proofs.lemmas.Bool.{eqb-true, eq-eqb}
+use Rattle.std.proofs.lemmas.Bool.{eqb-true, eq-eqb, false_from_ne_true}
 use Rattle.pipe_types.specs.declared.numbers.StageNo.{StageNo}
 use Rattle.pipe_types.specs.declared.numbers.SubNo.{SubNo}
 use Rattle.pipe_types.specs.declared.topology.Topology.{Topology}
@@ -12,10 +12,11 @@ use Rattle.pipe_types.specs.declared.room.Room.{Room}
 use Rattle.pipe_types.specs.declared.room.Sent.{Sent as SentUnit}
 use Rattle.pipe_types.specs.Dispatchers.{Serving, ByDemand, ByBroadcast, ByPartition, served_as, goes, is_served, has_rooms, fit_all, on_each, sends_from, serves_from}
 use Rattle.pipe_types.specs.Stages.{spec_of}
-use Rattle.pipe_laws.proofs.Lists.{Each, each_weaker, all_among}
+use Rattle.pipe_laws.proofs.Lists.{Each, each_weaker, each_always, each_map, each-append, all_among}
 use Rattle.pipe_laws.proofs.Tests.{clash}
 use Rattle.pipe_model.specs.History.{History}
 use Rattle.pipe_model.specs.Flow.{view_of, deliveries, alone, served_by, picks_by, rooms_by, mark_in, waiting, is_batcher, is_empty, subs_of, among, kind_in}
+use Rattle.queue_laws.proofs.Singles.{none_of}
 use Rattle.queue_laws.proofs.Filters.{filter_each, filter_split, filter_none}
 use Rattle.core_laws.specs.Columns.{is_broadcast}
 use Rattle.core_sends.proofs.Picked.{none_behind}
@@ -42,6 +43,55 @@ served_front picks rooms g earlier (n ∷ ns) = either (has_rooms rooms) (fit_al
     either true true e f r = (r.0, ap (λ ms. n ∷ ms) r.1)
     either true false e f r = (n ∷ ns, ap (λ ms. ms ++ (n ∷ ns)) (sym (none_behind picks rooms (g n ∷ earlier) (map {B = ℕ × ℕ} (λ m. (m, g m)) ns) f)))
     either false b e f r = (n ∷ ns, ap (λ ms. ms ++ (n ∷ ns)) (sym (no_rooms picks rooms (g n ∷ earlier) (map {B = ℕ × ℕ} (λ m. (m, g m)) ns) e)))
+
+-- What is not served is not sent
+
+no_room : (test : Room → Bool) (rooms : List Room) → has_rooms rooms ≡ false → filter test rooms ≡ []
+no_room test [] h = refl
+no_room test (r ∷ rooms) h = cc
+
+sent_served : (picks : ℕ → SubNo → Bool) (rooms : List Room) (earlier : List ℕ) (units : List (ℕ × ℕ))
+    → Each (λ (d : SentUnit). among (serves_from (ByBroadcast picks) rooms earlier units) d.unit ≡ true) (sends_from (ByBroadcast picks) rooms earlier units)
+sent_served picks rooms earlier [] = tt
+sent_served picks rooms earlier (u ∷ units) =
+    each-append (λ (d : SentUnit). among (serves_from (ByBroadcast picks) rooms earlier (u ∷ units)) d.unit ≡ true) (on_each u.0 (filter (goes (ByBroadcast picks) rooms earlier u.1) rooms)) (sends_from (ByBroadcast picks) rooms (u.1 ∷ earlier) units)
+    (here (has_rooms rooms) (fit_all picks rooms (u.1 ∷ earlier)) refl refl)
+    (each_weaker (λ (d : SentUnit). among later d.unit ≡ true) (λ (d : SentUnit). among (serves_from (ByBroadcast picks) rooms earlier (u ∷ units)) d.unit ≡ true) (λ d m. behind (is_served (ByBroadcast picks) rooms earlier u.1) d.unit m)
+    (sends_from (ByBroadcast picks) rooms (u.1 ∷ earlier) units) (sent_served picks rooms (u.1 ∷ earlier) units))
+  where
+    later : List ℕ
+    later = serves_from (ByBroadcast picks) rooms (u.1 ∷ earlier) units
+
+    behind : (b : Bool) (n : ℕ) → among later n ≡ true → among (if b then u.0 ∷ later else later) n ≡ true
+    behind true n m = or_right (u.0 == n) (among later n) m
+      where
+        or_right : (x y : Bool) → y ≡ true → (x || y) ≡ true
+        or_right true y g = refl
+        or_right false y g = g
+    behind false n m = m
+
+    here : (a b : Bool) → has_rooms rooms ≡ a → fit_all picks rooms (u.1 ∷ earlier) ≡ b
+        → Each (λ (d : SentUnit). among (if a && b then u.0 ∷ serves_from (ByBroadcast picks) rooms (u.1 ∷ earlier) units else serves_from (ByBroadcast picks) rooms (u.1 ∷ earlier) units) d.unit ≡ true) (on_each u.0 (filter (λ r. fit_all picks rooms (u.1 ∷ earlier) && picks u.1 r.sub) rooms))
+    here true true e f =
+        each_map (λ (d : SentUnit). among (u.0 ∷ later) d.unit ≡ true) (λ (r : Room). record { unit = u.0; sub = r.sub }) (filter (λ r. fit_all picks rooms (u.1 ∷ earlier) && picks u.1 r.sub) rooms)
+        (each_always (λ (r : Room). among (u.0 ∷ later) u.0 ≡ true) (λ r. ap (λ c. c || among later u.0) (eq-eqb u.0 u.0 refl)) (filter (λ r. fit_all picks rooms (u.1 ∷ earlier) && picks u.1 r.sub) rooms))
+    here a false e f =
+        subst (λ (rs : List Room). Each (λ (d : SentUnit). among (if a && false then u.0 ∷ later else later) d.unit ≡ true) (on_each u.0 rs))
+        (sym (filter_none (λ r. fit_all picks rooms (u.1 ∷ earlier) && picks u.1 r.sub) rooms (each_always (λ (r : Room). (fit_all picks rooms (u.1 ∷ earlier) && picks u.1 r.sub) ≡ false) (λ r. ap (λ c. c && picks u.1 r.sub) f) rooms)))
+        tt
+    here false true e f =
+        subst (λ (rs : List Room). Each (λ (d : SentUnit). among later d.unit ≡ true) (on_each u.0 rs)) (sym (no_room (λ r. fit_all picks rooms (u.1 ∷ earlier) && picks u.1 r.sub) rooms e)) tt
+
+pub unserved_unsent : (picks : ℕ → SubNo → Bool) (rooms : List Room) (earlier : List ℕ) (units : List (ℕ × ℕ)) (n : ℕ) → among (serves_from (ByBroadcast picks) rooms earlier units) n ≡ false
+    → subs_of (sends_from (ByBroadcast picks) rooms earlier units) n ≡ []
+unserved_unsent picks rooms earlier units n other =
+    none_of (sends_from (ByBroadcast picks) rooms earlier units) n
+    (each_weaker (λ (d : SentUnit). among served d.unit ≡ true) (λ (d : SentUnit). (d.unit == n) ≡ false)
+    (λ d m. false_from_ne_true (d.unit == n) (λ e. clash (among served n) (ap (among served) (sym (eqb-true d.unit n e)) ∙ m) other))
+    (sends_from (ByBroadcast picks) rooms earlier units) (sent_served picks rooms earlier units))
+  where
+    served : List ℕ
+    served = serves_from (ByBroadcast picks) rooms earlier units
 
 -- Other dispatchers
 

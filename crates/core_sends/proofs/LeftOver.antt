@@ -1,8 +1,8 @@
 -- What is left of a queue: what is neither sent nor over the size.
-use Rattle.std.proofs.Common.{◌≡◌, ℕ, zero, suc, ◌-◌, ◌<◌, ◌≤◌, List, [], ◌∷◌, ◌++◌, length, take, drop, map, min, Bool, true, false, refl, ap, sym, ◌∙◌, subst, Some, None, Option, arith, inl, inr}
-use Rattle.std.specs.Prelude.{filter, cond, not, ◌==◌, ◌||◌, ◌⊎◌}
-use Rattle.std.proofs.lemmas.Bool.{eqb-true, eq-eqb, cases_lt, false_from_ne_true}
-use Rattle.std.proofs.lemmas.List.{append-nil, drop_all, take_all, length-take}
+use Rattle.std.proofs.Common.{◌≡◌, ℕ, zero, suc, ◌-◌, List, [], ◌∷◌, ◌++◌, length, take, drop, map, Bool, true, false, refl, ap, sym, ◌∙◌, subst, Some, None, Option}
+use Rattle.std.specs.Prelude.{filter, cond, not, ◌==◌, ◌||◌}
+use Rattle.std.proofs.lemmas.Bool.{eqb-true, eq-eqb, false_from_ne_true}
+use Rattle.std.proofs.lemmas.List.{append-nil}
 use Rattle.pipe_types.specs.declared.topology.Keep.{Keep}
 use Rattle.pipe_types.specs.declared.topology.Keep.TheVariants.{Last, First}
 use Rattle.pipe_laws.proofs.Lists.{Each, each_weaker, all_among}
@@ -10,7 +10,7 @@ use Rattle.pipe_laws.proofs.Tests.{clash}
 use Rattle.pipe_model.specs.Flow.{among, over_size}
 use Rattle.queue_laws.proofs.Apart.{Apart}
 use Rattle.queue_laws.proofs.Filters.{filter_split, filter_all, filter_none}
-use Rattle.core_sends.specs.Losing.{over_of, kept_of, over_from, over_to, between, outside}
+use Rattle.core_sends.specs.Losing.{over_of, kept_of}
 
 -- Lists in which no number stands twice
 
@@ -67,29 +67,15 @@ whole zero xs = refl
 whole (suc k) [] = refl
 whole (suc k) (x ∷ xs) = ap (λ ys. x ∷ ys) (whole k xs)
 
--- a part up to a size that is at most the length is the part up to the size, where the length makes none
-short : {B : Type 0} (part : ℕ → B) (size n : ℕ) → (n ≤ size → part n ≡ part size) → part (min size n) ≡ part size
-short part size n whole = by (cases_lt size n)
-  where
-    by : (size < n) ⊎ (n ≤ size) → part (min size n) ≡ part size
-    by (inl low) = ap part (omega arith)
-    by (inr high) = ap part (omega arith) ∙ whole high
-
-short_take : {A : Type 0} (size : ℕ) (xs : List A) → take (min size (length xs)) xs ≡ take size xs
-short_take size xs = short (λ k. take k xs) size (length xs) (λ high. take_all (length xs) xs (omega arith) ∙ sym (take_all size xs high))
-
-short_drop : {A : Type 0} (size : ℕ) (xs : List A) → drop (min size (length xs)) xs ≡ drop size xs
-short_drop size xs = short (λ k. drop k xs) size (length xs) (λ high. drop_all (length xs) xs (omega arith) ∙ sym (drop_all size xs high))
-
 -- what is over the size
 pub over_is : (size : Option ℕ) (keep : Keep) (ns : List ℕ) → over_of size keep ns ≡ over_size size keep ns
-over_is None keep ns = drop_all (length ns) (take (length ns) ns) (omega (arith, length-take (length ns) ns))
+over_is None keep ns = refl
 over_is (Some size) Last ns = refl
-over_is (Some size) First ns = ap (drop (min size (length ns))) (take_all (length ns) ns (omega arith)) ∙ short_drop size ns
+over_is (Some size) First ns = refl
 
 -- what is kept is the rest
 pub kept_is : (size : Option ℕ) (keep : Keep) (ns : List ℕ) → Apart (λ n. n) ns → kept_of size keep ns ≡ filter (λ n. not (among (over_size size keep ns) n)) ns
-kept_is None keep ns h = whole (length ns) ns ∙ sym (filter_all (λ n. true) ns (always ns))
+kept_is None keep ns h = sym (filter_all (λ n. true) ns (always ns))
   where
     always : (zs : List ℕ) → Each (λ n. true ≡ true) zs
     always [] = tt
@@ -98,9 +84,7 @@ kept_is (Some size) Last ns h =
     let k : ℕ = length ns - size in
     sym (ap (filter (without (take k ns))) (sym (whole k ns)) ∙ without_front (take k ns) (drop k ns) (subst (Apart (λ n. n)) (sym (whole k ns)) h))
 kept_is (Some size) First ns h =
-    ap (λ zs. take (min size (length ns)) ns ++ zs) (drop_all (length ns) ns (omega arith))
-    ∙ (append-nil (take (min size (length ns)) ns) ∙ (short_take size ns
-    ∙ sym (ap (filter (without (drop size ns))) (sym (whole size ns)) ∙ without_back (take size ns) (drop size ns) (subst (Apart (λ n. n)) (sym (whole size ns)) h))))
+    sym (ap (filter (without (drop size ns))) (sym (whole size ns)) ∙ without_back (take size ns) (drop size ns) (subst (Apart (λ n. n)) (sym (whole size ns)) h))
 
 -- Pairs
 
@@ -117,27 +101,19 @@ drop_map f zero xs = refl
 drop_map f (suc k) [] = refl
 drop_map f (suc k) (x ∷ xs) = drop_map f k xs
 
-map_both : {A B : Type 0} (f : A → B) (xs ys : List A) → map f xs ++ map f ys ≡ map f (xs ++ ys)
-map_both f [] ys = refl
-map_both f (x ∷ xs) ys = ap (λ zs. f x ∷ zs) (map_both f xs ys)
-
 long_map : {A B : Type 0} (f : A → B) (xs : List A) → length (map f xs) ≡ length xs
 long_map f [] = refl
 long_map f (x ∷ xs) = ap suc (long_map f xs)
 
-between_map : {A B : Type 0} (f : A → B) (from to : ℕ) (xs : List A) → between from to (map f xs) ≡ map f (between from to xs)
-between_map f from to xs = ap (drop from) (take_map f to xs) ∙ drop_map f from (take to xs)
-
-outside_map : {A B : Type 0} (f : A → B) (from to : ℕ) (xs : List A) → outside from to (map f xs) ≡ map f (outside from to xs)
-outside_map f from to xs = ap (λ ys. ys ++ drop to (map f xs)) (take_map f from xs) ∙ (ap (λ ys. map f (take from xs) ++ ys) (drop_map f to xs) ∙ map_both f (take from xs) (drop to xs))
-
 pub over_map : {A B : Type 0} (f : A → B) (size : Option ℕ) (keep : Keep) (xs : List A) → over_of size keep (map f xs) ≡ map f (over_of size keep xs)
-over_map f size keep xs =
-    ap (λ n. between (over_from size keep n) (over_to size keep n) (map f xs)) (long_map f xs) ∙ between_map f (over_from size keep (length xs)) (over_to size keep (length xs)) xs
+over_map f None keep xs = refl
+over_map f (Some size) Last xs = ap (λ n. take (n - size) (map f xs)) (long_map f xs) ∙ take_map f (length xs - size) xs
+over_map f (Some size) First xs = drop_map f size xs
 
 pub kept_map : {A B : Type 0} (f : A → B) (size : Option ℕ) (keep : Keep) (xs : List A) → kept_of size keep (map f xs) ≡ map f (kept_of size keep xs)
-kept_map f size keep xs =
-    ap (λ n. outside (over_from size keep n) (over_to size keep n) (map f xs)) (long_map f xs) ∙ outside_map f (over_from size keep (length xs)) (over_to size keep (length xs)) xs
+kept_map f None keep xs = refl
+kept_map f (Some size) Last xs = ap (λ n. drop (n - size) (map f xs)) (long_map f xs) ∙ drop_map f (length xs - size) xs
+kept_map f (Some size) First xs = take_map f size xs
 
 pub filter_map : {A B : Type 0} (test : B → Bool) (f : A → B) (xs : List A) → filter test (map f xs) ≡ map f (filter (λ x. test (f x)) xs)
 filter_map test f [] = refl

@@ -1,12 +1,14 @@
 pub mod OpenDemand
 pub mod Counted
-pub mod Kept
+pub mod Left
+pub mod Taking
 pub mod Over
 pub mod Queued
 pub mod Plain
 pub mod LeftOver
 pub mod Settled
 pub mod Sent
+pub mod Taken
 pub mod Reached
 pub mod AfterSending
 pub mod Sendable

@@ -124,14 +124,14 @@ alone_rows core new s producers at ns h x p-is at-is ns-is =
 -- The passes
 
 -- the unit at a place of the front
-pub front_unit : {Y : Type 0} (F : List (ℕ × ℕ) → Y) (units : List (ℕ × ℕ)) (count k : ℕ) (unit : ℕ × ℕ) → k < count → count ≤ length units → unit ≡ get_or units k unit
+pub front_unit : {Y : Type 0} (F : List ℕ → Y) (units : List ℕ) (count k unit : ℕ) → k < count → count ≤ length units → unit ≡ get_or units k unit
     → F (drop k (take count units)) ≡ F (unit ∷ drop (k + 1) (take count units))
 front_unit F units count k unit below within read =
     let long : k < length (take count units) = omega (arith, length-take count units, below, within) in
     at_drop_more F (take count units) k unit long ∙ ap (λ u. F (u ∷ drop (k + 1) (take count units))) (get_or-take count units k unit below ∙ sym read)
 
 -- what is noted of a batch, and then of the others
-pub noted_more : (f : ℕ → Option AckRow) (old new : List AckRow) (rows : List BatchRow) (legs : List (ℕ × Ends)) (unit : ℕ × ℕ) (units : List (ℕ × ℕ)) → new ≡ old ++ filter_map f (alone_in rows legs unit)
+pub noted_more : (f : ℕ → Option AckRow) (old new : List AckRow) (rows : List BatchRow) (legs : List (ℕ × Ends)) (unit : ℕ) (units : List ℕ) → new ≡ old ++ filter_map f (alone_in rows legs unit)
     → new ++ filter_map f (served_alone rows legs units) ≡ old ++ filter_map f (served_alone rows legs (unit ∷ units))
 noted_more f old new rows legs unit units e =
     ap (λ rs. rs ++ filter_map f (served_alone rows legs units)) e
@@ -139,7 +139,7 @@ noted_more f old new rows legs unit units e =
     ∙ ap (λ rs. old ++ rs) (sym (filter_map-append f (alone_in rows legs unit) (served_alone rows legs units))))
 
 -- and the room that is left for them
-pub room_more : (f : ℕ → Option AckRow) (old new : List AckRow) (rows : List BatchRow) (legs : List (ℕ × Ends)) (unit : ℕ × ℕ) (units : List (ℕ × ℕ)) (room : ℕ) → new ≡ old ++ filter_map f (alone_in rows legs unit)
+pub room_more : (f : ℕ → Option AckRow) (old new : List AckRow) (rows : List BatchRow) (legs : List (ℕ × Ends)) (unit : ℕ) (units : List ℕ) (room : ℕ) → new ≡ old ++ filter_map f (alone_in rows legs unit)
     → length old + length (served_alone rows legs (unit ∷ units)) ≤ room → length new + length (served_alone rows legs units) ≤ room
 room_more f old new rows legs unit units room e fits =
     let all = length-append (alone_in rows legs unit) (served_alone rows legs units) in
@@ -147,7 +147,7 @@ room_more f old new rows legs unit units room e fits =
     let few = kept_few f (alone_in rows legs unit) in
     omega (arith, all, long, few, fits)
 
-pub room_first : (rows : List BatchRow) (legs : List (ℕ × Ends)) (unit : ℕ × ℕ) (units : List (ℕ × ℕ)) (old room : ℕ) → old + length (served_alone rows legs (unit ∷ units)) ≤ room → old + length (alone_in rows legs unit) ≤ room
+pub room_first : (rows : List BatchRow) (legs : List (ℕ × Ends)) (unit : ℕ) (units : List ℕ) (old room : ℕ) → old + length (served_alone rows legs (unit ∷ units)) ≤ room → old + length (alone_in rows legs unit) ≤ room
 room_first rows legs unit units old room fits =
     let all = length-append (alone_in rows legs unit) (served_alone rows legs units) in
     omega (arith, all, fits)

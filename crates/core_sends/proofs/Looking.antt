@@ -221,13 +221,6 @@ looked topology before s count cast within full =
 
 -- The keys of the batches that wait
 
--- the number of the unit at that place of a queue
-pub number_at : (part : ℕ → ℕ) (ns : List ℕ) (items : List (ℕ × ℕ)) (k : ℕ) (u : ℕ × ℕ) → items ≡ map {B = ℕ × ℕ} (λ n. (part n, n)) ns → k < length ns → u ≡ get_or items k u → u.1 ≡ get_or ns k 0
-number_at part ns items k u is below at =
-    let low : k < length items = omega (arith, ap length is, long_queue part ns, below) in
-    ap (λ (v : ℕ × ℕ). v.1) at
-    ∙ (sym (get_or-map (λ (v : ℕ × ℕ). v.1) items k u 0 low) ∙ ap (λ (ms : List ℕ). get_or ms k 0) (ap (map {A = ℕ × ℕ} {B = ℕ} (λ v. v.1)) is ∙ numbers_in_queue part ns))
-
 -- what waits at that place is a batch
 pub batch_there : (topology : Topology) (before : History) (s : StageNo) (k : ℕ) → IsSound topology → is_legal topology before ≡ true → is_batcher (spec_of topology s) ≡ true → k < length (waiting topology before s)
     → (1 ≤ get_or (waiting topology before s) k 0) × (batch_waits_in s (batch topology before (get_or (waiting topology before s) k 0)) ≡ true)

@@ -21,11 +21,13 @@ use Rattle.pipe_model.specs.Flow.{has_batchers_in, serving_by, rooms_by, view_of
 use Rattle.pipe_model.specs.Lives.{is_live, is_live_sub, current_sub, live_subs, live_subs_from}
 use Rattle.queue_laws.proofs.Roles.{fed_spec}
 use Rattle.stage_laws.proofs.Numbering.{numbered_topology}
-use Rattle.core_tables.specs.Tables.{queue_at, list_at, spare_at, spare_in, IsWithin}
+use Rattle.core_tables.specs.Tables.{queue_at, list_at, IsWithin}
 use Rattle.core_laws.proofs.Past.{known_within}
 use Rattle.core_state.specs.declared.state.Core.{Core}
 use Rattle.core_state.specs.Stands.{Fields, Holds, Stands}
-use Rattle.core_state.proofs.Roomy.{more_queue}
+use Rattle.core_waits.specs.Waits.{free, free_at}
+use Rattle.core_waits.proofs.Columns.{free_grows}
+use Rattle.stage_buffer.specs.Waiting.{Waiting}
 use Rattle.core_sends.specs.Rooms.{planned, marks_of}
 use Rattle.core_sends.proofs.Sent.{each_all}
 use Rattle.core_state.proofs.Parts.{Part, InboxesAre, InboxesLen, Says, unchanged, fields_of}
@@ -90,7 +92,7 @@ roomy_stands core inboxes same long x =
       unowed = x.unowed;
     }
 
--- a queue that was left by units has no less room than before
-pub left_queues : (core : Core) (s : StageNo) (old q : VecDeque (ℕ × ℕ) Global) (t : StageNo) → Holds core → s.0 < length core.waiting.items → slice_get core.waiting.items s.0 ≡ Some old
-    → spare_in (Some old) ≤ spare_in (Some q) → has_batchers_in (spec_of core.topology t) ≡ true → length (list_at core.chunks.items t) ≤ spare_at (set core.waiting.items s.0 q) t
-left_queues core s old q t x within was more feeds = omega (arith, x.room.queues t feeds, more_queue core.waiting.items s old q within was more t)
+-- a buffer that was left by units has no less room than before
+pub left_queues : (core : Core) (s : StageNo) (old q : Waiting ℕ) (t : StageNo) → Holds core → s.0 < length core.waiting.items → slice_get core.waiting.items s.0 ≡ Some old
+    → free old ≤ free q → has_batchers_in (spec_of core.topology t) ≡ true → length (list_at core.chunks.items t) ≤ free_at (set core.waiting.items s.0 q) t
+left_queues core s old q t x within was more feeds = omega (arith, x.room.queues t feeds, free_grows core.waiting.items s old q within was more t)

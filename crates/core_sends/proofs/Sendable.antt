@@ -3,6 +3,7 @@ use Rattle.std.proofs.Common.{◌≡◌, ℕ, suc, ◌-◌, ◌<◌, ◌≤◌, 
 use Rattle.std.specs.Prelude.{is_some, if◌then◌else◌}
 use Rattle.std.specs.declared.alloc.Global.{Global}
 use Rattle.std.specs.declared.collections.VecDeque.{VecDeque}
+use Rattle.stage_buffer.specs.Waiting.{Waiting}
 use Rattle.std.proofs.lemmas.List.{length-map, get_or-map}
 use Rattle.pipe_types.specs.declared.numbers.StageNo.{StageNo}
 use Rattle.pipe_types.specs.declared.numbers.SubNo.{SubNo}
@@ -15,7 +16,7 @@ use Rattle.pipe_laws.proofs.Tests.{and_left}
 use Rattle.pipe_model.specs.History.{History, accepted, asked}
 use Rattle.pipe_model.specs.Lives.{is_live}
 use Rattle.pipe_model.specs.Legal.{allows}
-use Rattle.pipe_model.specs.Flow.{waiting, deliveries, sent, count_on}
+use Rattle.pipe_model.specs.Flow.{waiting, deliveries, sent, count_on, kind_in, unsent}
 use Rattle.queue_laws.proofs.Roles.{fed_spec}
 use Rattle.stage_laws.proofs.Numbering.{numbered_topology}
 use Rattle.stage_subs.specs.Subs.{is_live as is_live_in_table, room_on, room_in}
@@ -30,8 +31,12 @@ use Rattle.core_state.specs.Stands.{Fields, Holds}
 use Rattle.core_sends.specs.Rooms.{planned}
 use Rattle.core_sends.proofs.AfterSending.{counts_are}
 use Rattle.core_sends.proofs.Queued.{live_within, waiting_read, long_queue, numbers_in_queue}
-use Rattle.core_sends.proofs.Sent.{deliveries_named}
-use Rattle.core_laws.specs.Columns.{part_of, waiting_parts}
+use Rattle.core_sends.proofs.Sent.{deliveries_named, pair}
+use Rattle.core_sends.proofs.Taken.{units_are, unsent_left}
+use Rattle.core_sends.specs.Leaving.{part_for}
+use Rattle.sent_laws.specs.Taken.{taken_each, left_each}
+use Rattle.pipe_types.specs.declared.topology.Dispatch.{Dispatch as Kind}
+use Rattle.core_laws.specs.Columns.{part_of, waiting_parts, is_broadcast}
 use Rattle.core_sends.specs.Losing.{numbers_in}
 
 -- what is known at a dispatch that is legal
@@ -45,23 +50,45 @@ dispatching core s x allowed =
     record { law = law; within = (live_within core.topology core.journal.steps s x.sound law.live).1 }
 
 -- the queue that the code read, and how many wait in it
-pub queue_read : (core : Core) (s : StageNo) (queue : VecDeque (ℕ × ℕ) Global) → Holds core → allows core.topology core.journal.steps (Dispatch s) ≡ true
-    → queue ≡ get_or core.waiting.items s.0 queue → queue.items ≡ waiting_parts core.topology core.journal.steps s
+pub queue_read : (core : Core) (s : StageNo) (queue : Waiting ℕ) → Holds core → allows core.topology core.journal.steps (Dispatch s) ≡ true
+    → queue ≡ get_or core.waiting.items s.0 queue → queue.units ≡ waiting_parts core.topology core.journal.steps s
 queue_read core s queue x allowed read = waiting_read core core.topology core.journal.steps x.fields s queue (dispatching core s x allowed).within read
 
-pub many_wait : (core : Core) (s : StageNo) (queue : VecDeque (ℕ × ℕ) Global) → Holds core → allows core.topology core.journal.steps (Dispatch s) ≡ true
-    → queue ≡ get_or core.waiting.items s.0 queue → length queue.items ≡ length (waiting core.topology core.journal.steps s)
+pub many_wait : (core : Core) (s : StageNo) (queue : Waiting ℕ) → Holds core → allows core.topology core.journal.steps (Dispatch s) ≡ true
+    → queue ≡ get_or core.waiting.items s.0 queue → length queue.units ≡ length (waiting core.topology core.journal.steps s)
 many_wait core s queue x allowed read =
     ap length (queue_read core s queue x allowed read) ∙ long_queue (part_of core.topology core.journal.steps (spec_of core.topology s)) (waiting core.topology core.journal.steps s)
 
--- what the plan names in that queue is what is sent
-pub units_named : (core : Core) (s : StageNo) (queue : VecDeque (ℕ × ℕ) Global) (plan units : List Sent) → Holds core → allows core.topology core.journal.steps (Dispatch s) ≡ true
-    → queue ≡ get_or core.waiting.items s.0 queue → plan ≡ planned core.topology core.journal.steps s [] → units ≡ map (named (numbers_in queue.items)) plan → units ≡ deliveries core.topology core.journal.steps s
-units_named core s queue plan units x allowed read planned_so named_so =
-    let t = core.topology in
-    let before = core.journal.steps in
-    let numbers : numbers_in queue.items ≡ waiting t before s = ap numbers_in (queue_read core s queue x allowed read) ∙ numbers_in_queue (part_of t before (spec_of t s)) (waiting t before s) in
-    named_so ∙ (ap (map (named (numbers_in queue.items))) planned_so ∙ (ap (λ ws. map (named ws) (planned t before s [])) numbers ∙ sym (deliveries_named t before s)))
+-- their numbers
+pub numbers_read : (core : Core) (s : StageNo) (queue : Waiting ℕ) (numbers : List ℕ) → Holds core → allows core.topology core.journal.steps (Dispatch s) ≡ true
+    → queue ≡ get_or core.waiting.items s.0 queue → numbers ≡ map (λ (u : ℕ × ℕ). u.1) queue.units → numbers ≡ waiting core.topology core.journal.steps s
+numbers_read core s queue numbers x allowed read are =
+    are ∙ (ap numbers_in (queue_read core s queue x allowed read) ∙ numbers_in_queue (part_of core.topology core.journal.steps (spec_of core.topology s)) (waiting core.topology core.journal.steps s))
+
+-- what the plan names among them is what is sent
+pub units_named : (topology : Topology) (before : History) (s : StageNo) (numbers : List ℕ) (plan units : List Sent) → numbers ≡ waiting topology before s → plan ≡ planned topology before s []
+    → units ≡ map (named numbers) plan → units ≡ deliveries topology before s
+units_named topology before s numbers plan units are planned_so named_so =
+    named_so ∙ (ap (map (named numbers)) planned_so ∙ (ap (λ ws. map (named ws) (planned topology before s [])) are ∙ sym (deliveries_named topology before s)))
+
+-- and so are the units that are taken as they were planned
+pub units_taken : (core : Core) (s : StageNo) (queue : Waiting ℕ) (kind : Kind) (plan units : List Sent) → Holds core → allows core.topology core.journal.steps (Dispatch s) ≡ true
+    → is_broadcast (kind_in (spec_of core.topology s)) ≡ false → queue ≡ get_or core.waiting.items s.0 queue → kind_in (spec_of core.topology s) ≡ kind → plan ≡ planned core.topology core.journal.steps s []
+    → units ≡ taken_each (part_for core.topology kind) plan queue.units → units ≡ deliveries core.topology core.journal.steps s
+units_taken core s queue kind plan units x allowed plain read is planned_so taken_so =
+    taken_so ∙ ((λ i. taken_each (part_for core.topology (sym is i)) (planned_so i) (queue_read core s queue x allowed read i)) ∙ units_are core.topology core.journal.steps s x.sound plain)
+
+-- which leaves those that are not sent
+pub units_left : (core : Core) (s : StageNo) (queue : Waiting ℕ) (kind : Kind) (plan : List Sent) (left : List (ℕ × ℕ)) → Holds core → allows core.topology core.journal.steps (Dispatch s) ≡ true
+    → is_broadcast (kind_in (spec_of core.topology s)) ≡ false → queue ≡ get_or core.waiting.items s.0 queue → kind_in (spec_of core.topology s) ≡ kind → plan ≡ planned core.topology core.journal.steps s []
+    → left ≡ left_each (part_for core.topology kind) plan queue.units
+    → left ≡ map (pair core.topology core.journal.steps s) (unsent (deliveries core.topology core.journal.steps s) (waiting core.topology core.journal.steps s))
+units_left core s queue kind plan left x allowed plain read is planned_so left_so =
+    left_so ∙ ((λ i. left_each (part_for core.topology (sym is i)) (planned_so i) (queue_read core s queue x allowed read i)) ∙ unsent_left core.topology core.journal.steps s x.sound x.legal plain)
+
+-- the plan by their names
+pub plan_named : (topology : Topology) (before : History) (s : StageNo) (plan units : List Sent) → plan ≡ planned topology before s [] → units ≡ deliveries topology before s → units ≡ map (named (waiting topology before s)) plan
+plan_named topology before s plan units planned_so is = is ∙ (deliveries_named topology before s ∙ ap (map (named (waiting topology before s))) (sym planned_so))
 
 pub sent_well : (core : Core) (s : StageNo) (units : List Sent) → Holds core → allows core.topology core.journal.steps (Dispatch s) ≡ true
     → units ≡ deliveries core.topology core.journal.steps s → All (IsSentWell core.topology core.journal.steps) units

@@ -26,13 +26,12 @@ use Rattle.queue_laws.proofs.ByPlace.{deliveries_by_place}
 use Rattle.queue_laws.proofs.Filters.{filter_each, filter_both}
 use Rattle.queue_laws.proofs.Laws.{waiting_law}
 use Rattle.queue_laws.proofs.Sounds.{fits}
-use Rattle.queue_laws.proofs.Waits.{waits_dispatched}
 use Rattle.stage_laws.proofs.Bounds.{waiting_apart, waiting_within}
 use Rattle.core_tables.specs.Tables.{named}
 use Rattle.core_laws.specs.Columns.{waiting_parts, part_of}
-use Rattle.core_sends.specs.Losing.{still_waits, left_in, numbers_in, over_of, kept_of}
+use Rattle.core_sends.specs.Losing.{numbers_in, over_of, kept_of}
 use Rattle.core_sends.specs.Rooms.{planned, marks_of}
-use Rattle.core_sends.proofs.LeftOver.{over_is, over_map, kept_is, kept_map, filter_map}
+use Rattle.core_sends.proofs.LeftOver.{over_is, over_map, kept_is, kept_map}
 use Rattle.core_sends.proofs.Queued.{numbers_in_queue}
 
 -- What is sent, by places and by numbers
@@ -99,31 +98,8 @@ each_waits topology before s sound h plain = both (waiting topology before s) (w
 pub record AreMoved (topology : Topology) (before : History) (s : StageNo) (places : List Place) : Type 0 where
   pub placed : (i : ℕ) → slice_get places i ≡ option_map (dispatched (deliveries topology before s) [] [] s (suc i)) (place topology before (suc i))
 
--- a unit of the queue still waits where it was not sent
-pub still_is : (topology : Topology) (before : History) (s : StageNo) (places : List Place) → AreMoved topology before s places → (n : ℕ) → Waits topology before s n
-    → still_waits places s n ≡ is_empty (subs_of (deliveries topology before s) n)
-still_is topology before s places moved n w =
-    let number : suc (n - 1) ≡ n = omega (arith, w.0.0) in
-    ap (waits_in s) (moved.placed (n - 1) ∙ ap (λ m. option_map (dispatched (deliveries topology before s) [] [] s m) (place topology before m)) number)
-    ∙ (waits_dispatched (deliveries topology before s) [] [] s n (place topology before n)
-    ∙ (ap (λ b. b && (is_empty (subs_of (deliveries topology before s) n) && true)) w.1 ∙ whole (is_empty (subs_of (deliveries topology before s) n))))
-  where
-    whole : (b : Bool) → (b && true) ≡ b
-    whole true = refl
-    whole false = refl
-
 abbrev pub pair : Topology → History → StageNo → ℕ → ℕ × ℕ
 pair topology before s n = (part_of topology before (spec_of topology s) n, n)
-
--- the queue without those that were sent
-pub left_is : (topology : Topology) (before : History) (s : StageNo) (places : List Place) → IsSound topology → is_legal topology before ≡ true → is_batcher (spec_of topology s) ≡ false
-    → AreMoved topology before s places
-    → left_in places s (waiting_parts topology before s) ≡ map (pair topology before s) (unsent (deliveries topology before s) (waiting topology before s))
-left_is topology before s places sound h plain moved =
-    filter_map (λ (unit : ℕ × ℕ). still_waits places s unit.1) (pair topology before s) (waiting topology before s)
-    ∙ ap (map (pair topology before s))
-    (filter_each (λ n. is_empty (subs_of (deliveries topology before s) n)) (λ n. still_waits places s n) (waiting topology before s)
-    (each_weaker (Waits topology before s) (λ n. still_waits places s n ≡ is_empty (subs_of (deliveries topology before s) n)) (still_is topology before s places moved) (waiting topology before s) (each_waits topology before s sound h plain)))
 
 abbrev pub over : Topology → History → StageNo → List ℕ
 over topology before s = lost_over topology before (view_of topology before) s

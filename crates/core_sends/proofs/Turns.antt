@@ -1,11 +1,12 @@
--- Going through the first units of a batcher's queue.
-use Rattle.std.proofs.Common.{◌≡◌, ℕ, zero, suc, ◌+◌, ◌-◌, List, [], ◌∷◌, ◌++◌, map, take, drop, All, refl, ap, sym, ◌∙◌, subst, arith, Some, None, Option}
-use Rattle.std.specs.Prelude.{filter, option_map}
+-- Going through the first units of a batcher's buffer.
+use Rattle.std.proofs.Common.{◌≡◌, ℕ, zero, suc, ◌+◌, List, [], ◌∷◌, ◌++◌, take, drop, All, refl, ap, sym, ◌∙◌, arith, Some, None, Option}
+use Rattle.std.specs.Prelude.{option_map}
 use Rattle.pipe_types.specs.declared.message.Place.{Place}
 use Rattle.queue_laws.proofs.Filters.{filter_split}
 use Rattle.message_ack.specs.Ends.{Ends}
 use Rattle.core_sends.specs.Batches.{not_sent, lone_of, all_succeeded, all_marked, succeeded}
-use Rattle.core_sends.specs.Losing.{marked}
+use Rattle.core_sends.specs.Losing.{marked, numbers_in}
+use Rattle.core_sends.proofs.LeftOver.{drop_map}
 use Rattle.core_sends.proofs.Reached.{each_drop}
 use Rattle.core_sends.proofs.Sent.{each_all, all_each}
 
@@ -31,14 +32,8 @@ take_one (suc k) (x ∷ xs) =
     let next : suc k + 1 ≡ suc (k + 1) = omega arith in
     ap (λ j. take j (x ∷ xs)) next ∙ ap (λ ys. x ∷ ys) (take_one k xs)
 
-numbers_split : (xs ys : List (ℕ × ℕ)) → map {A = ℕ × ℕ} {B = ℕ} (λ unit. unit.1) (xs ++ ys) ≡ map {A = ℕ × ℕ} {B = ℕ} (λ unit. unit.1) xs ++ map {A = ℕ × ℕ} {B = ℕ} (λ unit. unit.1) ys
-numbers_split [] ys = refl
-numbers_split (x ∷ xs) ys = ap (λ ns. x.1 ∷ ns) (numbers_split xs ys)
-
-lone_split : (legs : List (ℕ × Ends)) (xs ys : List (ℕ × ℕ)) → lone_of legs (xs ++ ys) ≡ lone_of legs xs ++ lone_of legs ys
-lone_split legs xs ys =
-    ap (map {A = ℕ × ℕ} {B = ℕ} (λ unit. unit.1)) (filter_split (λ (unit : ℕ × ℕ). not_sent legs unit.1) xs ys)
-    ∙ numbers_split (filter (λ (unit : ℕ × ℕ). not_sent legs unit.1) xs) (filter (λ (unit : ℕ × ℕ). not_sent legs unit.1) ys)
+lone_split : (legs : List (ℕ × Ends)) (xs ys : List ℕ) → lone_of legs (xs ++ ys) ≡ lone_of legs xs ++ lone_of legs ys
+lone_split legs xs ys = filter_split (not_sent legs) xs ys
 
 succeeded_split : (numbers : ℕ → List ℕ) (bs cs : List ℕ) (n : ℕ) (p : Place) → all_succeeded numbers (bs ++ cs) n p ≡ all_succeeded numbers cs n (all_succeeded numbers bs n p)
 succeeded_split numbers [] cs n p = refl
@@ -48,11 +43,11 @@ marked_split : (numbers : ℕ → List ℕ) (bs cs : List ℕ) (mark n old : ℕ
 marked_split numbers [] cs mark n old = refl
 marked_split numbers (b ∷ bs) cs mark n old = marked_split numbers bs cs mark n (marked (numbers b) mark n old)
 
-lone_more : (legs : List (ℕ × Ends)) (old queue : List (ℕ × ℕ)) (k : ℕ) → queue ≡ drop k old → lone_of legs (take (k + 1) old) ≡ lone_of legs (take k old) ++ lone_of legs (take 1 queue)
+lone_more : (legs : List (ℕ × Ends)) (old queue : List ℕ) (k : ℕ) → queue ≡ drop k old → lone_of legs (take (k + 1) old) ≡ lone_of legs (take k old) ++ lone_of legs (take 1 queue)
 lone_more legs old queue k is = ap (lone_of legs) (take_one k old) ∙ (lone_split legs (take k old) (take 1 (drop k old)) ∙ ap (λ q. lone_of legs (take k old) ++ lone_of legs (take 1 q)) (sym is))
 
 -- one more unit was gone through
-pub placed_turn : (numbers : ℕ → List ℕ) (legs : List (ℕ × Ends)) (old queue : List (ℕ × ℕ)) (k n : ℕ) (first now new : Option Place) → queue ≡ drop k old
+pub placed_turn : (numbers : ℕ → List ℕ) (legs : List (ℕ × Ends)) (old queue : List ℕ) (k n : ℕ) (first now new : Option Place) → queue ≡ drop k old
     → now ≡ option_map (all_succeeded numbers (lone_of legs (take k old)) n) first → new ≡ option_map (all_succeeded numbers (lone_of legs (take 1 queue)) n) now
     → new ≡ option_map (all_succeeded numbers (lone_of legs (take (k + 1) old)) n) first
 placed_turn numbers legs old queue k n first now new is was turn = turn ∙ (ap (option_map (all_succeeded numbers (lone_of legs (take 1 queue)) n)) was ∙ (by first ∙ sym (ap (λ bs. option_map (all_succeeded numbers bs n) first) (lone_more legs old queue k is))))
@@ -62,7 +57,7 @@ placed_turn numbers legs old queue k n first now new is was turn = turn ∙ (ap 
     by None = refl
     by (Some p) = ap Some (sym (succeeded_split numbers (lone_of legs (take k old)) (lone_of legs (take 1 queue)) n p))
 
-pub marked_turn : (numbers : ℕ → List ℕ) (legs : List (ℕ × Ends)) (old queue : List (ℕ × ℕ)) (k mark n : ℕ) (first now new : Option ℕ) → queue ≡ drop k old
+pub marked_turn : (numbers : ℕ → List ℕ) (legs : List (ℕ × Ends)) (old queue : List ℕ) (k mark n : ℕ) (first now new : Option ℕ) → queue ≡ drop k old
     → now ≡ option_map (all_marked numbers (lone_of legs (take k old)) mark n) first → new ≡ option_map (all_marked numbers (lone_of legs (take 1 queue)) mark n) now
     → new ≡ option_map (all_marked numbers (lone_of legs (take (k + 1) old)) mark n) first
 marked_turn numbers legs old queue k mark n first now new is was turn = turn ∙ (ap (option_map (all_marked numbers (lone_of legs (take 1 queue)) mark n)) was ∙ (by first ∙ sym (ap (λ bs. option_map (all_marked numbers bs mark n) first) (lone_more legs old queue k is))))
@@ -79,9 +74,6 @@ same_option (Some x) = refl
 pub all_drop : {A : Type 0} (P : A → Type 0) (k : ℕ) (xs : List A) → All P xs → All P (drop k xs)
 all_drop P k xs h = each_all P (drop k xs) (each_drop P k xs (all_each P xs h))
 
--- the rest of the rest
-pub all_rest : {A : Type 0} (P : A → Type 0) (first served : ℕ) (xs queue : List A) → queue ≡ drop served xs → All P (drop first xs) → All P (drop (first - served) queue)
-all_rest P first served xs queue is h =
-    let most : first + (served - first) ≡ served + (first - served) = omega arith in
-    subst (λ ys. All P (drop (first - served) ys)) (sym is)
-    (subst (All P) (drop_drop (served - first) first xs ∙ (ap (λ k. drop k xs) most ∙ sym (drop_drop (first - served) served xs))) (all_drop P (served - first) (drop first xs) h))
+-- the numbers of the units past the first so many
+pub numbers_past : (k : ℕ) (units queue : List (ℕ × ℕ)) → queue ≡ drop k units → numbers_in queue ≡ drop k (numbers_in units)
+numbers_past k units queue is = ap numbers_in is ∙ sym (drop_map (λ (u : ℕ × ℕ). u.1) k units)

@@ -57,17 +57,12 @@ pub fn send_messages(core: &mut Core, stage: StageNo, sent: Vec<Sent>)
     let kind = spec.dispatch;
     let mark = core.journal.len();
     let mut units = sent;
-    take_sent(&mut core.waiting[at], &core.topology, kind, &mut units);
+    let queue = &mut core.waiting[at];
+    take_sent(queue, &core.topology, kind, &mut units);
     deliver_all(&mut core.inboxes, &units);
     count_all(&mut core.subs, &units);
     place_all(&mut core.places, stage, &units);
-    lose_over(
-        &mut core.waiting[at],
-        &mut core.places,
-        &mut core.settled,
-        stage,
-        mark,
-    );
+    lose_over(queue, &mut core.places, &mut core.settled, stage, mark);
     core.totals.quiet = 0;
     core.journal.push_spare(Step::Dispatch { stage });
 }
@@ -127,8 +122,9 @@ fn send_batches(
     );
     deliver_all(&mut core.inboxes, &units);
     count_all(&mut core.subs, &units);
+    let queue = &mut core.waiting[at];
     leave_served(
-        &mut core.waiting[at],
+        queue,
         &mut core.places,
         &mut core.settled,
         &core.batches,
@@ -137,7 +133,7 @@ fn send_batches(
         mark,
     );
     let kind = dispatch_of(&core.topology, stage);
-    leave_sent(&mut core.waiting[at], &core.topology, kind, &units);
+    leave_sent(queue, &core.topology, kind, &units);
     core.totals.quiet = 0;
     core.journal.push_spare(Step::Dispatch { stage });
     Ok(())

@@ -23,7 +23,7 @@ pub note_batch-requires-clause-room : goal.note_batch-requires-clause-room
 note_batch-requires-clause-room c =
     let l = c.loop-i in
     let unit = c.index.result.now in
-    let queue = c.args.queue.now.items in
+    let queue = c.args.numbers.now in
     let now = front_unit (λ us. served_alone c.args.batches.now.items c.args.legs.now us) queue c.args.served l.i unit (omega arith) c.requires.served c.index.ensures in
     let fits : length l.journal.acked.rows + length (served_alone c.args.batches.now.items c.args.legs.now (unit ∷ drop (l.i + 1) (take c.args.served queue))) ≤ l.journal.acked.room =
     subst (λ ns. length l.journal.acked.rows + length ns ≤ l.journal.acked.room) now l.invariant.room in
@@ -34,7 +34,7 @@ loop-i-preserved c =
     let l = c.loop-i in
     let p = c.note_batch in
     let unit = c.index.result.now in
-    let queue = c.args.queue.now.items in
+    let queue = c.args.numbers.now in
     let rows = c.args.batches.now.items in
     let legs = c.args.legs.now in
     let f = success c.args.producers.now c.args.mark in
@@ -54,7 +54,7 @@ loop-i-preserved c =
 pub returns-clause-noted : goal.returns-clause-noted
 returns-clause-noted c =
     let l = c.loop-i in
-    let queue = c.args.queue.now.items in
+    let queue = c.args.numbers.now in
     let all : length (take c.args.served queue) ≤ l.i = omega (arith, length-take c.args.served queue) in
     sym (append-nil l.journal.acked.rows)
     ∙ (ap (λ ns. l.journal.acked.rows ++ filter_map (success c.args.producers.now c.args.mark) ns)

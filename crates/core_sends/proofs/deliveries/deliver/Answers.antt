@@ -13,7 +13,7 @@ long n queue more is =
 
 pub returns-in-Demand : goal.returns-in-Demand
 returns-in-Demand c =
-    let queue = c.args.queue.now.items in
+    let queue = c.args.queue.now.units in
     let more = c.args.more.now in
     let rooms = c.args.rooms.now in
     let n : ℕ = c.len.result + length c.args.more.now in

@@ -52,4 +52,4 @@ returns c =
     let there : spec_of t c.args.stage ≡ Some c.in-Some.spec.now = sym c.in-Some.ensures in
     c.into_vec.ensures
     ∙ (c.in_ok-sent.ensures
-    ∙ plan_is t before c.args.stage c.in-Some.spec.now c.index-queue.result.now.items c.deref.result.now c.args.more.now there read (c.deref.ensures.value ∙ c.in_ok-rooms.ensures) (plain_here c.args.core.now.topology c.args.stage c.in-Some.spec.now there c.requires.plain))
+    ∙ plan_is t before c.args.stage c.in-Some.spec.now c.index-queue.result.now.units c.deref.result.now c.args.more.now there read (c.deref.ensures.value ∙ c.in_ok-rooms.ensures) (plain_here c.args.core.now.topology c.args.stage c.in-Some.spec.now there c.requires.plain))

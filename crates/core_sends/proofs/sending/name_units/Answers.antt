@@ -1,9 +1,8 @@
-use Rattle.std.proofs.Common.{rules, ◌≡◌, ◌∙◌, arith, get_or, ap, sym, ℕ}
-use Rattle.std.proofs.lemmas.List.{get_or_read, get_or-map}
+use Rattle.std.proofs.Common.{rules, ℕ, ◌≡◌, ◌∙◌, arith, get_or, ap}
+use Rattle.std.proofs.lemmas.List.{get_or_read}
 use Rattle.pipe_types.specs.declared.room.Sent.{Sent}
 use Rattle.core_tables.specs.Tables.{named}
 use Rattle.core_tables.proofs.Named.{rest_is, front_step, rest_step}
-use Rattle.core_sends.specs.Losing.{numbers_in}
 use Rattle.core_tables.proofs.Tables.{no_unit}
 use Rattle.core_sends.proofs.sending.name_units.Goals as goal
 
@@ -20,15 +19,14 @@ loop-i-preserved c =
     let read : c.index-sent.result.now ≡ get_or l.units.items l.i no_unit = get_or_read l.units.items l.i c.index-sent.result.now (omega arith) c.index-sent.ensures no_unit in
     let same : c.index-sent.result.now ≡ get_or c.args.units.now.items l.i no_unit = read ∙ rest_is l.units.items c.args.units.now.items l.i no_unit l.invariant.rest in
     let below = c.requires.within l.i no_unit (omega arith) in
-    let new : Sent = record { unit = c.index.result.now.1; sub = c.index-sent.result.now.sub } in
-    let at : c.index.result.now ≡ get_or c.args.waiting.now.items c.index-sent.result.now.unit c.index.result.now = c.index.ensures in
-    let named_at : get_or (numbers_in c.args.waiting.now.items) c.index-sent.result.now.unit 0 ≡ (get_or c.args.waiting.now.items c.index-sent.result.now.unit c.index.result.now).1 =
-    get_or-map (λ (u : ℕ × ℕ). u.1) c.args.waiting.now.items c.index-sent.result.now.unit c.index.result.now 0 (omega (arith, ap (λ (d : Sent). d.unit) same, below)) in
-    let is : new ≡ named (numbers_in c.args.waiting.now.items) (get_or c.args.units.now.items l.i no_unit) =
-    ap (λ n. record { unit = n; sub = c.index-sent.result.now.sub }) (ap (λ (u : ℕ × ℕ). u.1) at ∙ sym named_at)
-    ∙ ap (named (numbers_in c.args.waiting.now.items)) same in
+    let number : ℕ = c.index.result.now in
+    let new : Sent = record { unit = number; sub = c.index-sent.result.now.sub } in
+    let at : number ≡ get_or c.args.numbers.now c.index-sent.result.now.unit 0 =
+    get_or_read c.args.numbers.now c.index-sent.result.now.unit number (omega (arith, ap (λ (d : Sent). d.unit) same, below)) c.index.ensures 0 in
+    let is : new ≡ named c.args.numbers.now (get_or c.args.units.now.items l.i no_unit) =
+    ap (λ n. record { unit = n; sub = c.index-sent.result.now.sub }) at ∙ ap (named c.args.numbers.now) same in
     record {
-      front = front_step (named (numbers_in c.args.waiting.now.items)) l.units.items c.args.units.now.items l.i no_unit new (omega arith) (omega arith) l.invariant.front is;
+      front = front_step (named c.args.numbers.now) l.units.items c.args.units.now.items l.i no_unit new (omega arith) (omega arith) l.invariant.front is;
       rest = rest_step l.units.items c.args.units.now.items l.i new l.invariant.rest;
       len = search rules;
     }
