@@ -134,7 +134,7 @@ mark_more mark all rest n m o now more is = ap (option_map (marked rest mark m))
 -- What is over a size
 
 -- that unit goes of these, and the rest stays
-pub record Goes (size : Option ℕ) (keep : Keep) (units : List (ℕ × ℕ)) (n : ℕ) (rest : List (ℕ × ℕ)) : Type 0 where
+pub record Goes (size : Option ℕ) (keep : Keep) (units : List (ℕ × ℕ)) (n : ℕ) (rest : List (ℕ × ℕ)) : Type 1 where
   pub lost : AreMore (numbers_in (over_of size keep units)) n (numbers_in (over_of size keep rest))
   pub kept : kept_of size keep rest ≡ kept_of size keep units
   pub fewer : length rest < length units
