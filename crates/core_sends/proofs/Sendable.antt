@@ -1,9 +1,11 @@
 -- What the passes of a dispatch need of what is sent.
-use Rattle.std.proofs.Common.{◌≡◌, ℕ, suc, ◌-◌, ◌<◌, ◌≤◌, List, [], length, map, All, true, false, ap, sym, ◌∙◌, None, arith, subst, get_or}
-use Rattle.std.specs.Prelude.{is_some, if◌then◌else◌}
+use Rattle.std.proofs.Common.{◌≡◌, ℕ, suc, ◌-◌, ◌<◌, ◌≤◌, List, [], length, map, All, true, false, ap, sym, ◌∙◌, Some, None, arith, subst, get_or}
+use Rattle.std.specs.Prelude.{is_some, if◌then◌else◌, slice_get, option_map}
 use Rattle.std.specs.declared.alloc.Global.{Global}
 use Rattle.std.specs.declared.collections.VecDeque.{VecDeque}
-use Rattle.stage_buffer.specs.Waiting.{Waiting}
+use Rattle.stage_buffer.specs.Waiting.{Waiting, KeepsShape}
+use Rattle.core_waits.specs.Waits.{Shape, shape_of, shape_for}
+use Rattle.pipe_types.specs.declared.topology.StageSpec.{StageSpec}
 use Rattle.std.proofs.lemmas.List.{length-map, get_or-map}
 use Rattle.pipe_types.specs.declared.numbers.StageNo.{StageNo}
 use Rattle.pipe_types.specs.declared.numbers.SubNo.{SubNo}
@@ -85,6 +87,16 @@ pub units_left : (core : Core) (s : StageNo) (queue : Waiting ℕ) (kind : Kind)
     → left ≡ map (pair core.topology core.journal.steps s) (unsent (deliveries core.topology core.journal.steps s) (waiting core.topology core.journal.steps s))
 units_left core s queue kind plan left x allowed plain read is planned_so left_so =
     left_so ∙ ((λ i. left_each (part_for core.topology (sym is i)) (planned_so i) (queue_read core s queue x allowed read i)) ∙ unsent_left core.topology core.journal.steps s x.sound x.legal plain)
+
+-- the buffer of a stage has the shape of the stage
+pub shape_read : (core : Core) (s : StageNo) (spec : StageSpec) (queue : Waiting ℕ) → Holds core → spec_of core.topology s ≡ Some spec → slice_get core.waiting.items s.0 ≡ Some queue → shape_of queue ≡ shape_for spec
+shape_read core s spec queue x there was =
+    let is : Some (shape_of queue) ≡ Some (shape_for spec) = sym (ap (option_map shape_of) was) ∙ x.fields.set.waiting s spec there in
+    cc
+
+-- shapes that are kept twice
+pub kept_twice : (a b c : Waiting ℕ) → KeepsShape a b → KeepsShape b c → KeepsShape a c
+kept_twice a b c first second = record { parts = second.parts ∙ first.parts; size = second.size ∙ first.size; keep = second.keep ∙ first.keep }
 
 -- the plan by their names
 pub plan_named : (topology : Topology) (before : History) (s : StageNo) (plan units : List Sent) → plan ≡ planned topology before s [] → units ≡ deliveries topology before s → units ≡ map (named (waiting topology before s)) plan
