@@ -1,5 +1,5 @@
 -- Units that are taken out of a buffer, one after another.
-use Rattle.std.proofs.Common.{◌≡◌, ℕ, ◌+◌, ◌<◌, List, [], ◌∷◌, ◌++◌, length, take, drop, set, get_or, map, Bool, true, false, refl, ap, sym, ◌∙◌, Some, None, Option}
+use Rattle.std.proofs.Common.{◌≡◌, ℕ, zero, suc, ◌+◌, ◌<◌, List, [], ◌∷◌, ◌++◌, length, take, drop, set, get_or, map, Bool, true, false, refl, ap, sym, ◌∙◌, Some, None, Option}
 use Rattle.std.specs.Prelude.{if◌then◌else◌, ◌==◌, filter, cond, slice_get, unwrap_or}
 use Rattle.std.proofs.lemmas.List.{take_more_set, at_drop_more, append_assoc}
 use Rattle.pipe_types.specs.declared.numbers.SubNo.{SubNo}
@@ -17,6 +17,12 @@ first_is p (u ∷ units) = by (u.0 == p) (first_is p units)
         → unwrap_or (slice_get (map (λ (v : ℕ × ℕ). v.1) (cond b (u ∷ filter (λ (v : ℕ × ℕ). v.0 == p) units) (filter (λ (v : ℕ × ℕ). v.0 == p) units))) 0) 0 ≡ (if b then u.1 else first_number p units)
     by true rest = refl
     by false rest = rest
+
+-- what stands at a place, or 0
+pub place_is : (ns : List ℕ) (i : ℕ) → unwrap_or (slice_get ns i) 0 ≡ get_or ns i 0
+place_is [] i = refl
+place_is (n ∷ ns) zero = refl
+place_is (n ∷ ns) (suc i) = place_is ns i
 
 -- one more is taken
 pub left_turn : (part : SubNo → ℕ) (ys : List Sent) (i : ℕ) (none d : Sent) (q r whole : List (ℕ × ℕ)) → i < length ys → get_or ys i none ≡ d → r ≡ without_first (part d.sub) q

@@ -1,6 +1,6 @@
 -- Going through the first units of a batcher's buffer.
-use Rattle.std.proofs.Common.{◌≡◌, ℕ, zero, suc, ◌+◌, List, [], ◌∷◌, ◌++◌, take, drop, All, refl, ap, sym, ◌∙◌, arith, Some, None, Option}
-use Rattle.std.specs.Prelude.{option_map}
+use Rattle.std.proofs.Common.{◌≡◌, ℕ, zero, suc, ◌+◌, ◌<◌, List, [], ◌∷◌, ◌++◌, length, get_or, take, drop, All, refl, ap, sym, ◌∙◌, arith, Some, None, Option}
+use Rattle.std.specs.Prelude.{option_map, slice_get}
 use Rattle.pipe_types.specs.declared.message.Place.{Place}
 use Rattle.queue_laws.proofs.Filters.{filter_split}
 use Rattle.message_ack.specs.Ends.{Ends}
@@ -77,3 +77,8 @@ all_drop P k xs h = each_all P (drop k xs) (each_drop P k xs (all_each P xs h))
 -- the numbers of the units past the first so many
 pub numbers_past : (k : ℕ) (units queue : List (ℕ × ℕ)) → queue ≡ drop k units → numbers_in queue ≡ drop k (numbers_in units)
 numbers_past k units queue is = ap numbers_in is ∙ sym (drop_map (λ (u : ℕ × ℕ). u.1) k units)
+
+-- the first of them
+pub first_number_is : (units : List (ℕ × ℕ)) (n : ℕ) → Some n ≡ option_map (λ (u : ℕ × ℕ). u.1) (slice_get units 0) → (0 < length (numbers_in units)) × (get_or (numbers_in units) 0 0 ≡ n)
+first_number_is [] n is = cc
+first_number_is (u ∷ units) n is = (omega arith, let same : n ≡ u.1 = cc in sym same)

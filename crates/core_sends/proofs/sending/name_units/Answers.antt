@@ -6,8 +6,8 @@ use Rattle.core_tables.proofs.Named.{rest_is, front_step, rest_step}
 use Rattle.core_tables.proofs.Tables.{no_unit}
 use Rattle.core_sends.proofs.sending.name_units.Goals as goal
 
-pub index-requires : goal.index-requires
-index-requires c =
+pub bounds-numbers-sent : goal.bounds-numbers-sent
+bounds-numbers-sent c =
     let l = c.loop-i in
     let read : c.index-sent.result.now ≡ get_or l.units.items l.i no_unit = get_or_read l.units.items l.i c.index-sent.result.now (omega arith) c.index-sent.ensures no_unit in
     let same : c.index-sent.result.now.unit ≡ (get_or c.args.units.now.items l.i no_unit).unit = ap (λ (d : Sent). d.unit) (read ∙ rest_is l.units.items c.args.units.now.items l.i no_unit l.invariant.rest) in
@@ -18,13 +18,9 @@ loop-i-preserved c =
     let l = c.loop-i in
     let read : c.index-sent.result.now ≡ get_or l.units.items l.i no_unit = get_or_read l.units.items l.i c.index-sent.result.now (omega arith) c.index-sent.ensures no_unit in
     let same : c.index-sent.result.now ≡ get_or c.args.units.now.items l.i no_unit = read ∙ rest_is l.units.items c.args.units.now.items l.i no_unit l.invariant.rest in
-    let below = c.requires.within l.i no_unit (omega arith) in
-    let number : ℕ = c.index.result.now in
-    let new : Sent = record { unit = number; sub = c.index-sent.result.now.sub } in
-    let at : number ≡ get_or c.args.numbers.now c.index-sent.result.now.unit 0 =
-    get_or_read c.args.numbers.now c.index-sent.result.now.unit number (omega (arith, ap (λ (d : Sent). d.unit) same, below)) c.index.ensures 0 in
+    let new : Sent = record { unit = get_or c.args.numbers.now c.index-sent.result.now.unit 0; sub = c.index-sent.result.now.sub } in
     let is : new ≡ named c.args.numbers.now (get_or c.args.units.now.items l.i no_unit) =
-    ap (λ n. record { unit = n; sub = c.index-sent.result.now.sub }) at ∙ ap (named c.args.numbers.now) same in
+    ap (named c.args.numbers.now) same in
     record {
       front = front_step (named c.args.numbers.now) l.units.items c.args.units.now.items l.i no_unit new (omega arith) (omega arith) l.invariant.front is;
       rest = rest_step l.units.items c.args.units.now.items l.i new l.invariant.rest;
