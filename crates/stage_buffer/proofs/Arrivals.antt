@@ -1,5 +1,5 @@
 -- When units arrived, sorted: the list in order of arrival.
-use Rattle.std.proofs.Common.{◌≡◌, ℕ, suc, ◌+◌, ◌<◌, ◌≤◌, List, [], ◌∷◌, ◌++◌, length, get_or, map, take, refl, ap, sym, ◌∙◌, ◌⊎◌, inl, inr, arith, append_assoc}
+use Rattle.std.proofs.Common.{◌≡◌, ℕ, suc, ◌+◌, ◌<◌, ◌≤◌, List, [], ◌∷◌, ◌++◌, length, get_or, map, take, replicate, refl, ap, sym, ◌∙◌, ◌⊎◌, inl, inr, arith, append_assoc}
 use Rattle.std.specs.Prelude.{Bool, true, false, nat_lt, nat_le, if◌then◌else◌, sum_by}
 use Rattle.std.specs.List.Sorted.{IsPermutation, IsNonDecreasingBy}
 use Rattle.std.proofs.lemmas.Bool.{cases_lt, le-leb, lt-leb}
@@ -166,3 +166,31 @@ module _ {X : Type 0} where
       ∙ ap (λ (xs : List Arrival). arrivals_from v 0 (take k rings) ++ xs) (sym (map-append (λ (a : Arrived X). record { at = a.at; value = v k a.unit }) front back) ∙ ap (arrivals_of v k) whole)
       ∙ sym (from_more v k 0 (take k rings) d (let long : length (take k rings) ≡ k = omega (arith, length-take k rings) in omega arith))
       ∙ ap (arrivals_from v 0) (sym (take_more rings k d within ∙ ap (λ (b : Buffer (Arrived X)). take k rings ++ b ∷ []) (sym is)))
+
+  -- Where there is one part
+
+  abbrev OfPart : ℕ → List (Entry X) → Type 0
+  OfPart p [] = Unit {0}
+  OfPart p (e ∷ es) = (e.part ≡ p) × OfPart p es
+
+  insert_of : (p : ℕ) (e : Entry X) (es : List (Entry X)) → e.part ≡ p → OfPart p es → OfPart p (insert e es)
+  insert_of p e [] is h = (is, tt)
+  insert_of p e (x ∷ xs) is h = either (nat_lt e.at x.at) (insert_of p e xs is h.1)
+    where
+      either : (b : Bool) → OfPart p (insert e xs) → OfPart p (if b then e ∷ x ∷ xs else x ∷ insert e xs)
+      either true deep = (is, h)
+      either false deep = (h.0, deep)
+
+  all_of : (p : ℕ) (ring : List (Arrived X)) → OfPart p (insert_all p ring [])
+  all_of p [] = tt
+  all_of p (a ∷ ring) = insert_of p (entry p a) (insert_all p ring []) refl (all_of p ring)
+
+  same_parts : (p : ℕ) (es : List (Entry X)) → OfPart p es → replicate (length es) p ≡ map (λ (u : ℕ × X). u.0) (map pair_of es)
+  same_parts p [] h = refl
+  same_parts p (e ∷ es) h = λ i. sym h.0 i ∷ same_parts p es h.1 i
+
+  -- the parts of the units of one ring
+  pub one_ring : (rings : List (Buffer (Arrived X))) (len : ℕ) → length rings ≡ 1 → length (in_order 0 rings) ≡ len → replicate len 0 ≡ map (λ (u : ℕ × X). u.0) (map pair_of (in_order 0 rings))
+  one_ring [] len one long = absurd (omega (arith, one))
+  one_ring (ring ∷ []) len one long = ap (λ (n : ℕ). replicate n 0) (sym long) ∙ same_parts 0 (insert_all 0 ring.items []) (all_of 0 ring.items)
+  one_ring (ring ∷ other ∷ rings) len one long = absurd (omega (arith, one))

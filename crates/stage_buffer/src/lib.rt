@@ -5,7 +5,7 @@
 //! part by at most 1. `new`, `reserve`, `parts` and `numbers` alone take memory.
 #![tactic(auto)]
 
-ghost use Rattle.std.specs.Prelude.{◌≡◌, ℕ, ◌+◌, ◌-◌, ◌<◌, ◌≤◌, ◌^◌, ◌++◌, ◌∷◌, [], length, map, take, drop, option_map, slice_get, option_copied, OnOk, IfOk, OnErr, IfSome, IsNone, if◌then◌else◌, ◌==◌};
+ghost use Rattle.std.specs.Prelude.{◌≡◌, ℕ, ◌+◌, ◌-◌, ◌<◌, ◌≤◌, ◌^◌, ◌++◌, ◌∷◌, [], length, map, take, drop, replicate, option_map, slice_get, option_copied, OnOk, IfOk, OnErr, IfSome, IsNone, if◌then◌else◌, ◌==◌};
 ghost use Rattle.std.specs.List.{list_any};
 ghost use Rattle.stage_buffer.specs.Waiting.{Waiting, units_of_part, without_first, spare_of, end_of, without_end, over_unit, without_over, waits, KeepsShape, KeepsSpare};
 ghost use Rattle.stage_buffer.specs.Order.{Orders, Becomes, HoldsSame, KeepsRoom, AreBelow, IsEarliest, IsLatest, entry, in_order, items_at, spare_at, remove, unit_of, unit_in, number_of, front_at, back_at, earlier_of, later_of, part_of, number_in, arrivals_of, arrivals_from};
@@ -131,7 +131,10 @@ impl<T: Drop> Buffer<T> {
         ensures { IfOk result (λ parts. parts ≡ map (λ u. u.0) self.now.units) }
     {
         let alloc = *self.rings.allocator();
-        let mut arrivals = arrivals_in(alloc, &self.rings)?;
+        if self.rings.len() == 1 {
+            return one_part(alloc, self.len as usize);
+        }
+        let mut arrivals = arrivals_in(alloc, &self.rings, self.len as usize)?;
         arrivals.sort_unstable_by_key(|arrival| arrival.at);
         let items = values_of(alloc, &arrivals)?;
         Ok(PartList::from_vec(items))
@@ -216,7 +219,7 @@ impl Buffer<u32> {
         ensures { IfOk result (λ numbers. numbers.items ≡ map (λ u. u.1) self.now.units) }
     {
         let alloc = *self.rings.allocator();
-        let mut arrivals = numbered_in(alloc, &self.rings)?;
+        let mut arrivals = numbered_in(alloc, &self.rings, self.len as usize)?;
         arrivals.sort_unstable_by_key(|arrival| arrival.at);
         values_of(alloc, &arrivals)
     }
@@ -254,15 +257,24 @@ fn is_among(units: &[Arrived<u32>], unit: u32) -> bool
     false
 }
 
-/// When the units of the rings arrived, with their parts, one ring after the other.
+/// The parts of so many units, which are all of the one part.
+fn one_part(alloc: Global, len: usize) -> Result<PartList, AllocError>
+    ensures { IfOk result (λ parts. parts ≡ replicate len 0) }
+{
+    let parts = vec![in alloc; 0; len]?;
+    Ok(PartList::from_vec(parts))
+}
+
+/// When the units of the rings arrived, so many, with their parts, one ring after the other.
 fn arrivals_in<T>(
     alloc: Global,
     rings: &[HeapCircularBuffer<Arrived<T>>],
+    len: usize,
 ) -> Result<Vec<Arrival>, AllocError>
     requires { length rings.now < 2 ^ 32 }
     ensures { IfOk result (λ arrivals. arrivals.items ≡ arrivals_from part_of 0 rings.now) }
 {
-    let mut arrivals = Vec::new(alloc);
+    let mut arrivals = Vec::with_capacity(alloc, len)?;
     for (part, ring) in rings.iter().enumerate() {
         let (front, back) = ring.as_slices();
         add_arrivals(&mut arrivals, part as u32, front)?;
@@ -288,14 +300,15 @@ fn add_arrivals<T>(
     Ok(())
 }
 
-/// When the units of the rings arrived, with their numbers, one ring after the other.
+/// When the units of the rings arrived, so many, with their numbers, one ring after the other.
 fn numbered_in(
     alloc: Global,
     rings: &[HeapCircularBuffer<Arrived<u32>>],
+    len: usize,
 ) -> Result<Vec<Arrival>, AllocError>
     ensures { IfOk result (λ arrivals. arrivals.items ≡ arrivals_from number_in 0 rings.now) }
 {
-    let mut arrivals = Vec::new(alloc);
+    let mut arrivals = Vec::with_capacity(alloc, len)?;
     for (part, ring) in rings.iter().enumerate() {
         let (front, back) = ring.as_slices();
         add_numbered(&mut arrivals, front)?;

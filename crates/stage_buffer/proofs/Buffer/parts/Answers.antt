@@ -1,9 +1,15 @@
-use Rattle.std.proofs.Common.{rules, ◌∙◌, ap, map}
+use Rattle.std.proofs.Common.{rules, ◌≡◌, ◌∙◌, ap, map, subst, arith, List, ℕ}
+use Rattle.std.specs.Prelude.{IfOk}
 use Rattle.std.proofs.lemmas.List.Sorted.{IsNonDecreasingBy-from_sort_by_key}
 use Rattle.stage_buffer.specs.declared.Arrival.{Arrival}
 use Rattle.stage_buffer.specs.Order.{arrivals_from, part_of}
-use Rattle.stage_buffer.proofs.Arrivals.{values_sorted}
+use Rattle.stage_buffer.proofs.Arrivals.{values_sorted, one_ring}
 use Rattle.stage_buffer.proofs.Buffer.parts.Goals as goal
+
+pub returns-then-len-eq1 : goal.returns-then-len-eq1
+returns-then-len-eq1 g c =
+    rw (← c.self.view_is)
+    (subst (λ (ns : List ℕ). IfOk c.one_part.result (λ parts. parts ≡ ns)) (one_ring c.self.inside.rings.items c.self.inside.len (omega arith) c.self.invariant.counted) c.one_part.ensures)
 
 pub returns : goal.returns
 returns g c =
