@@ -1,6 +1,6 @@
 -- The fields after a dispatch of a batcher.
-use Rattle.std.proofs.Common.{◌≡◌, ◌≢◌, ℕ, suc, ◌<◌, List, ◌∷◌, ◌++◌, length, set, map, true, ap, sym, ◌∙◌, Some, Option}
-use Rattle.std.specs.Prelude.{option_map, if◌then◌else◌, ◌==◌, ◌⊎◌, filter, slice_get, not, ◌&&◌}
+use Rattle.std.proofs.Common.{◌≡◌, ℕ, suc, ◌<◌, List, ◌∷◌, ◌++◌, length, set, true, ap, sym, ◌∙◌, Some, Option}
+use Rattle.std.specs.Prelude.{option_map, if◌then◌else◌, filter, slice_get, not, ◌&&◌}
 use Rattle.std.specs.declared.alloc.Global.{Global}
 use Rattle.std.specs.declared.vec.Vec.{Vec}
 use Rattle.std.specs.declared.collections.VecDeque.{VecDeque}
@@ -33,7 +33,6 @@ use Rattle.core_state.specs.Stands.{Fields, Stands}
 use Rattle.core_sends.specs.Batches.{closed_at, subs_at, messages_of, with_legs, not_sent, numbers_of, all_succeeded, all_marked}
 use Rattle.core_sends.proofs.AfterSending.{pairs_counted, queues_left}
 use Rattle.core_sends.proofs.BatchesSent.{AreBegun, legs_now, unsent_queue, places_now, marks_now, row_subs, row_subs_same}
-use Rattle.core_sends.proofs.Sent.{pair}
 use Rattle.core_state.proofs.Parts.{Part, BatchesAre, BatchesLen, ChunksAre, InboxesAre, InboxesLen, LegsAre, OpensAre, PlacesAre, PlacesLen, SentOnAre, SettledAre, SettledLen, SubsAre, TotalsAre, WaitingAre, WaitingLen, WaitingSet, Says, unchanged, fields_of}
 
 -- what the passes make of the tables

@@ -13,7 +13,7 @@ use Rattle.pipe_laws.proofs.Lists.{Each, each_weaker, each_always, each_map}
 use Rattle.pipe_laws.proofs.Places.{sends_each}
 use Rattle.pipe_model.specs.Batches.{Batch, BatchPlace, AtBatcher, Sent, Dropped, new_legs, batch_sent}
 use Rattle.pipe_model.specs.History.{History}
-use Rattle.pipe_model.specs.Flow.{place, batch, view_of, waiting, deliveries, rooms_by, serving_by, mark_in, alone, among, is_batcher, is_empty, subs_of, batch_waits_in, waits_in, at_batcher, change_place, numbers_in}
+use Rattle.pipe_model.specs.Flow.{place, batch, view_of, waiting, deliveries, rooms_by, serving_by, mark_in, alone, among, is_batcher, is_empty, subs_of, batch_waits_in, at_batcher, change_place, numbers_in}
 use Rattle.message_ack.specs.Ends.{ends_of}
 use Rattle.message_ack.specs.declared.legs.LegEnd.{LegEnd}
 use Rattle.core_laws.specs.Columns.{ends_in_progress, ends_on}

@@ -1,5 +1,5 @@
 -- The batches that a batcher's dispatch sends: their rows, their legs, and the queue without them.
-use Rattle.std.proofs.Common.{◌≡◌, ℕ, zero, suc, ◌-◌, ◌<◌, ◌≤◌, List, [], ◌∷◌, ◌++◌, length, map, drop, replicate, get_or, All, Bool, true, false, refl, ap, sym, ◌∙◌, subst, Some, None, Option, arith}
+use Rattle.std.proofs.Common.{◌≡◌, ℕ, zero, suc, ◌-◌, ◌<◌, ◌≤◌, List, [], ◌∷◌, ◌++◌, length, map, replicate, get_or, All, Bool, true, false, refl, ap, sym, ◌∙◌, subst, Some, None, Option, arith}
 use Rattle.std.specs.Prelude.{slice_get, option_map, if◌then◌else◌, ◌&&◌, not, is_some, filter}
 use Rattle.std.proofs.lemmas.List.{append_assoc}
 use Rattle.pipe_types.specs.declared.numbers.StageNo.{StageNo}
@@ -15,7 +15,7 @@ use Rattle.pipe_laws.proofs.Tests.{same_stage-self}
 use Rattle.pipe_model.specs.Batches.{Batch, BatchPlace, AtBatcher, Sent, Dropped}
 use Rattle.pipe_model.specs.History.{History, accepted, closed}
 use Rattle.pipe_model.specs.Legal.{is_legal, allows}
-use Rattle.pipe_model.specs.Flow.{place, batch, waiting, deliveries, is_batcher, is_empty, subs_of, batch_waits_in, waits_in, at_batcher, numbers_in, alone, among, served_by, serving_by, rooms_by, mark_in, view_of}
+use Rattle.pipe_model.specs.Flow.{place, batch, waiting, deliveries, is_batcher, is_empty, subs_of, batch_waits_in, at_batcher, numbers_in, alone, among, served_by, serving_by, rooms_by, mark_in, view_of}
 use Rattle.pipe_types.specs.declared.message.Place.{Place}
 use Rattle.pipe_model.specs.Taken.{closed_as}
 use Rattle.queue_laws.proofs.Alone.{serves_each, alone_each}
@@ -37,11 +37,10 @@ use Rattle.core_state.specs.declared.state.Core.{Core}
 use Rattle.core_state.specs.Stands.{Fields, closed_seen}
 use Rattle.core_laws.proofs.LegsOn.{IsOnSubs, PlaceOn, legs_are_on}
 use Rattle.core_sends.specs.Batches.{with_legs, subs_at, subs_seen, messages_of, messages_in, not_sent, numbers_at, numbers_of, all_succeeded, all_marked}
-use Rattle.core_sends.specs.Rooms.{planned}
 use Rattle.core_sends.proofs.BatchLegs.{sent_waits, legs_after}
 use Rattle.core_sends.proofs.Begun.{some_sub}
 use Rattle.core_sends.proofs.LeftOver.{filter_map}
-use Rattle.core_sends.proofs.Sent.{pair, each_all, over, each_test}
+use Rattle.core_sends.proofs.Sent.{pair, over, each_test}
 
 -- a batch that waits in a batcher has no legs
 waits_unsent : (s : StageNo) (o : Option Batch) → batch_waits_in s o ≡ true → ends_in_progress o ≡ None

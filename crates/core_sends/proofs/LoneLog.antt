@@ -1,5 +1,5 @@
 -- What a batcher's dispatch acknowledges: the messages of the batches that it serves alone.
-use Rattle.std.proofs.Common.{◌≡◌, ℕ, suc, ◌+◌, ◌-◌, ◌<◌, ◌≤◌, List, [], ◌∷◌, ◌++◌, length, take, drop, get_or, Bool, true, false, refl, ap, sym, ◌∙◌, subst, arith, Some, None, Option}
+use Rattle.std.proofs.Common.{◌≡◌, ℕ, suc, ◌+◌, ◌-◌, ◌<◌, ◌≤◌, List, [], ◌∷◌, ◌++◌, length, take, drop, get_or, Bool, true, false, refl, ap, sym, ◌∙◌, subst, arith, Some, Option}
 use Rattle.std.specs.Prelude.{slice_get, option_map, if◌then◌else◌, is_some, ◌==◌, ◌||◌}
 use Rattle.std.specs.List.{flat_map, filter_map}
 use Rattle.std.proofs.lemmas.Bool.{eq-eqb}
@@ -8,19 +8,18 @@ use Rattle.std.proofs.lemmas.List.Elements.{filter_map-append}
 use Rattle.pipe_types.specs.declared.numbers.StageNo.{StageNo}
 use Rattle.pipe_types.specs.declared.numbers.BatchNo.{BatchNo}
 use Rattle.pipe_types.specs.declared.topology.Topology.{Topology}
-use Rattle.pipe_types.specs.declared.message.Place.{Place}
 use Rattle.pipe_types.specs.declared.message.Place.TheVariants.{InBatch, Acked}
 use Rattle.pipe_types.specs.declared.message.Outcome.TheVariants.{Successful}
 use Rattle.pipe_types.specs.declared.step.Step.TheVariants.{Dispatch}
 use Rattle.pipe_types.specs.Numbers.{batch_no}
 use Rattle.pipe_types.specs.Sound.{IsSound}
-use Rattle.pipe_model.specs.History.{History, accepted}
+use Rattle.pipe_model.specs.History.{History}
 use Rattle.pipe_model.specs.Content.{producer_of}
 use Rattle.pipe_model.specs.Flow.{place, batch, view_of, among, alone, deliveries, dispatched, lost_over}
 use Rattle.pipe_model.specs.Legal.{is_legal}
 use Rattle.pipe_model.specs.Acknowledgements.{is_acked}
 use Rattle.pipe_laws.proofs.Accepted.{placed_accepted}
-use Rattle.pipe_laws.proofs.Lists.{Each, each_among, all_among}
+use Rattle.pipe_laws.proofs.Lists.{each_among, all_among}
 use Rattle.pipe_laws.proofs.Tests.{clash}
 use Rattle.queue_laws.proofs.Alone.{alone_is}
 use Rattle.queue_laws.proofs.Apart.{Apart, apart-append, differ_by}

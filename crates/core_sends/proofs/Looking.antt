@@ -1,9 +1,9 @@
 -- A broadcast looks at the first batches of a queue, by picks read of a list.
-use Rattle.std.proofs.Common.{◌≡◌, ℕ, zero, suc, ◌+◌, ◌*◌, ◌-◌, ◌<◌, ◌≤◌, List, [], ◌∷◌, ◌++◌, map, length, take, drop, get_or, Bool, true, false, refl, ap, sym, ◌∙◌, subst, arith, append_assoc, ◌≢◌, inl, inr}
+use Rattle.std.proofs.Common.{◌≡◌, ℕ, zero, suc, ◌+◌, ◌*◌, ◌-◌, ◌<◌, ◌≤◌, List, [], ◌∷◌, ◌++◌, length, take, drop, get_or, Bool, true, false, refl, ap, sym, ◌∙◌, subst, arith, append_assoc, ◌≢◌, inl, inr}
 use Rattle.std.specs.Prelude.{if◌then◌else◌, ◌||◌, ◌==◌, ◌⊎◌, is_some}
 use Rattle.core_tables.proofs.Tables.{same_or_other}
 use Rattle.std.specs.List.{enumerate_from}
-use Rattle.std.proofs.lemmas.List.{length-append, length-map, length-take-le, get_or-map, get_or-take, get_or_append_left, get_or-append-add, at_drop_more}
+use Rattle.std.proofs.lemmas.List.{length-append, length-map, length-take-le, get_or-take, get_or_append_left, get_or-append-add, at_drop_more}
 use Rattle.pipe_types.specs.declared.numbers.StageNo.{StageNo}
 use Rattle.pipe_types.specs.declared.numbers.SubNo.{SubNo}
 use Rattle.pipe_types.specs.declared.room.Room.{Room}
@@ -34,7 +34,6 @@ use Rattle.core_sends.specs.Batches.{numbers_of}
 use Rattle.core_sends.specs.Picks.{picks_row, picks_list, picks_at, first_sends, first_serves}
 use Rattle.core_sends.specs.Rooms.{planned, served_first}
 use Rattle.core_sends.proofs.BatchesSent.{each_batch_waits, numbers_are}
-use Rattle.core_sends.proofs.Queued.{long_queue, numbers_in_queue}
 use Rattle.core_sends.proofs.Sent.{each_all}
 use Rattle.core_sends.proofs.Joined.{Agree, sends_alike, serves_alike, low_places, low_units, planned_joined, served_joined}
 

@@ -1,6 +1,6 @@
 -- Units that are lost over a size, one after another.
-use Rattle.std.proofs.Common.{◌≡◌, ◌≢◌, ℕ, zero, suc, ◌+◌, ◌-◌, ◌<◌, ◌≤◌, List, [], ◌∷◌, ◌++◌, length, take, drop, map, set, Bool, true, false, refl, ap, sym, ◌∙◌, subst, Some, None, Option, arith, inl, inr, if◌then◌else◌}
-use Rattle.std.specs.Prelude.{slice_get, option_map, ◌==◌, ◌&&◌, ◌||◌, ◌⊎◌, nat_lt}
+use Rattle.std.proofs.Common.{◌≡◌, ◌≢◌, ℕ, zero, suc, ◌+◌, ◌-◌, ◌<◌, ◌≤◌, List, [], ◌∷◌, ◌++◌, length, take, drop, set, Bool, true, false, refl, ap, sym, ◌∙◌, subst, Some, None, Option, arith, inl, inr, if◌then◌else◌}
+use Rattle.std.specs.Prelude.{slice_get, option_map, ◌==◌, ◌&&◌, ◌||◌, ◌⊎◌}
 use Rattle.std.proofs.lemmas.Bool.Decides.{nat_tests}
 use Rattle.std.proofs.lemmas.List.{drop_all, take_all, length-append, length-take}
 use Rattle.pipe_types.specs.declared.numbers.StageNo.{StageNo}

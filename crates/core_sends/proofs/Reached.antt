@@ -1,27 +1,19 @@
 -- The units that wait in a stage of messages; those over the size waited and were not sent.
-use Rattle.std.proofs.Common.{◌≡◌, ℕ, zero, suc, ◌-◌, ◌<◌, ◌≤◌, List, [], ◌∷◌, length, map, take, drop, All, true, false, ap, sym, ◌∙◌, Some, None, Option, arith, subst, get_or}
-use Rattle.std.specs.Prelude.{◌==◌}
-use Rattle.std.proofs.lemmas.Bool.{eqb-true, false_from_ne_true}
-use Rattle.std.proofs.lemmas.List.{get_or-take, length-take}
+use Rattle.std.proofs.Common.{◌≡◌, ℕ, zero, suc, ◌-◌, ◌≤◌, List, [], ◌∷◌, length, drop, true, false, Some, None, Option, arith}
 use Rattle.pipe_types.specs.declared.numbers.StageNo.{StageNo}
 use Rattle.pipe_types.specs.declared.topology.Topology.{Topology}
 use Rattle.pipe_types.specs.declared.topology.StageSpec.{StageSpec}
 use Rattle.pipe_types.specs.declared.topology.Keep.{Keep}
 use Rattle.pipe_types.specs.declared.topology.Keep.TheVariants.{Last, First}
-use Rattle.pipe_types.specs.declared.message.Place.{Place}
-use Rattle.pipe_types.specs.declared.room.Sent.{Sent}
 use Rattle.pipe_types.specs.Sound.{IsSound}
 use Rattle.pipe_types.specs.Stages.{spec_of}
 use Rattle.pipe_laws.proofs.Chunks.{each_take}
-use Rattle.pipe_laws.proofs.Lists.{Each, each_weaker, each_both, each_map, each_filter, all_among, each_among}
-use Rattle.pipe_laws.proofs.Tests.{clash}
+use Rattle.pipe_laws.proofs.Lists.{Each, each_weaker, each_map, each_filter, each_among}
 use Rattle.pipe_model.specs.History.{History, accepted}
 use Rattle.pipe_model.specs.Legal.{is_legal}
 use Rattle.pipe_model.specs.Flow.{place, waiting, deliveries, over_size, over_in, unsent, is_batcher, is_empty, subs_of, among, waits_in}
-use Rattle.queue_laws.proofs.Apart.{Apart}
-use Rattle.queue_laws.proofs.Singles.{none_of}
 use Rattle.queue_laws.proofs.Sounds.{fits}
-use Rattle.stage_laws.proofs.Bounds.{waiting_apart, waiting_within}
+use Rattle.stage_laws.proofs.Bounds.{waiting_within}
 use Rattle.core_laws.specs.Columns.{waiting_parts}
 use Rattle.core_sends.proofs.Sent.{Waits, each_waits, pair, over}
 

@@ -4,7 +4,7 @@ use Rattle.std.specs.Prelude.{is_some, if◌then◌else◌, slice_get, option_ma
 use Rattle.std.specs.declared.alloc.Global.{Global}
 use Rattle.std.specs.declared.collections.VecDeque.{VecDeque}
 use Rattle.stage_buffer.specs.Waiting.{Waiting, KeepsShape}
-use Rattle.core_waits.specs.Waits.{Shape, shape_of, shape_for}
+use Rattle.core_waits.specs.Waits.{shape_of, shape_for}
 use Rattle.pipe_types.specs.declared.topology.StageSpec.{StageSpec}
 use Rattle.std.proofs.lemmas.List.{length-map, get_or-map}
 use Rattle.pipe_types.specs.declared.numbers.StageNo.{StageNo}

@@ -23,7 +23,7 @@ use Rattle.queue_laws.specs.Queues.{left_over}
 use Rattle.queue_laws.proofs.Alone.{none_alone}
 use Rattle.queue_laws.proofs.Apart.{Apart, apart_kept}
 use Rattle.queue_laws.proofs.ByPlace.{deliveries_by_place}
-use Rattle.queue_laws.proofs.Filters.{filter_each, filter_both}
+use Rattle.queue_laws.proofs.Filters.{filter_both}
 use Rattle.queue_laws.proofs.Laws.{waiting_law}
 use Rattle.queue_laws.proofs.Sounds.{fits}
 use Rattle.stage_laws.proofs.Bounds.{waiting_apart, waiting_within}

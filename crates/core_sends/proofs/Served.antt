@@ -24,14 +24,14 @@ use Rattle.queue_laws.proofs.Sounds.{fits}
 use Rattle.stage_laws.proofs.Bounds.{waiting_apart, waiting_within, batch_least}
 use Rattle.message_ack.specs.Ends.{Ends}
 use Rattle.core_tables.specs.declared.rows.BatchRow.{BatchRow}
-use Rattle.core_laws.specs.Columns.{waiting_parts, part_of, is_broadcast, closed_numbers}
+use Rattle.core_laws.specs.Columns.{waiting_parts, is_broadcast, closed_numbers}
 use Rattle.core_state.specs.declared.state.Core.{Core}
 use Rattle.core_state.specs.Stands.{Fields}
 use Rattle.core_sends.specs.Batches.{not_sent, lone_of, numbers_of, closed_at, all_succeeded, all_marked, IsEndable, served_alone}
 use Rattle.core_sends.specs.Rooms.{served_first}
 use Rattle.core_sends.proofs.BatchesSent.{AreBegun, each_unsent, each_batch_waits, numbers_are, numbers_seen}
 use Rattle.core_sends.proofs.Front.{served_front, none_lone, past_front, unserved_unsent}
-use Rattle.core_sends.proofs.LeftOver.{take_map, drop_map, filter_map, back_apart}
+use Rattle.core_sends.proofs.LeftOver.{drop_map, filter_map, back_apart}
 use Rattle.core_sends.proofs.Lone.{waits_inside, succeeded_alike, marked_alike, numbers_by}
 use Rattle.core_sends.proofs.Sent.{pair, each_all}
 use Rattle.std.specs.List.{flat_map}

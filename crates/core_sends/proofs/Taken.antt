@@ -1,5 +1,5 @@
 -- Units that are taken out of a buffer, each as the first of its part, are those that a dispatch sends.
-use Rattle.std.proofs.Common.{◌≡◌, ℕ, suc, ◌+◌, ◌-◌, ◌≤◌, List, [], ◌∷◌, ◌++◌, length, map, All, Bool, true, false, refl, ap, sym, ◌∙◌, subst}
+use Rattle.std.proofs.Common.{◌≡◌, ℕ, suc, ◌+◌, ◌-◌, ◌≤◌, List, [], ◌∷◌, ◌++◌, length, map, All, true, false, refl, ap, sym, ◌∙◌}
 use Rattle.std.specs.Prelude.{filter, ◌&&◌, nat_le, nat_lt}
 use Rattle.std.proofs.lemmas.List.{append-nil}
 use Rattle.pipe_types.specs.declared.numbers.StageNo.{StageNo}
@@ -12,13 +12,13 @@ use Rattle.pipe_types.specs.declared.topology.Dispatch.TheVariants.{Demand, Broa
 use Rattle.pipe_types.specs.Dispatchers.{ByDemand, ByPartition, served_as, mark_of, goes, ahead, on_each, sends_from, sends, sends_by_place}
 use Rattle.pipe_types.specs.Sound.{IsSound}
 use Rattle.pipe_types.specs.Stages.{spec_of}
-use Rattle.pipe_laws.proofs.Lists.{Each, each_weaker, each_always, each_map}
+use Rattle.pipe_laws.proofs.Lists.{each_weaker, each_always, each_map}
 use Rattle.pipe_laws.proofs.Sounds.{sound_ascends}
 use Rattle.pipe_model.specs.History.{History, accepted, asked}
 use Rattle.pipe_model.specs.Legal.{is_legal}
 use Rattle.pipe_model.specs.Lives.{live_subs}
 use Rattle.pipe_model.specs.Flow.{view_of, waiting, deliveries, rooms_by, serving_by, picks_by, mark_in, partition_in, kind_in, index_in, is_empty, subs_of, unsent, sent}
-use Rattle.queue_laws.proofs.Apart.{Apart, apart_mapped}
+use Rattle.queue_laws.proofs.Apart.{apart_mapped}
 use Rattle.queue_laws.proofs.Delivered.{rooms_apart}
 use Rattle.queue_laws.proofs.Singles.{demand_single}
 use Rattle.queue_laws.proofs.Sounds.{fits}
@@ -26,11 +26,10 @@ use Rattle.stage_laws.proofs.Bounds.{waiting_apart, waiting_within}
 use Rattle.sent_laws.specs.Taken.{taken_each, left_each}
 use Rattle.sent_laws.proofs.Taken.{taken_law as law_by_part}
 use Rattle.sent_laws.proofs.ByDemand.{taken_law as law_by_demand}
-use Rattle.core_tables.specs.Tables.{named}
 use Rattle.core_laws.specs.Columns.{waiting_parts, part_of, is_broadcast, is_by_partition}
 use Rattle.core_laws.proofs.Parts.{part_is, rooms_differ, sends_by_parts}
 use Rattle.core_sends.specs.Leaving.{part_for}
-use Rattle.core_sends.specs.Rooms.{planned, marks_of}
+use Rattle.core_sends.specs.Rooms.{planned}
 use Rattle.core_sends.proofs.Left.{number, left_is, left_named}
 use Rattle.core_sends.proofs.LeftOver.{filter_map}
 use Rattle.core_sends.proofs.Queued.{firsts_in, none_by_part}

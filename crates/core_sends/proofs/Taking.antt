@@ -1,10 +1,9 @@
 -- Units that are taken out of a buffer, one after another.
-use Rattle.std.proofs.Common.{◌≡◌, ℕ, zero, suc, ◌+◌, ◌<◌, List, [], ◌∷◌, ◌++◌, length, take, drop, set, get_or, map, Bool, true, false, refl, ap, sym, ◌∙◌, Some, None, Option}
+use Rattle.std.proofs.Common.{◌≡◌, ℕ, zero, suc, ◌+◌, ◌<◌, List, [], ◌∷◌, ◌++◌, length, take, drop, set, get_or, map, Bool, true, false, refl, ap, sym, ◌∙◌}
 use Rattle.std.specs.Prelude.{if◌then◌else◌, ◌==◌, filter, cond, slice_get, unwrap_or}
 use Rattle.std.proofs.lemmas.List.{take_more_set, at_drop_more, append_assoc}
 use Rattle.pipe_types.specs.declared.numbers.SubNo.{SubNo}
 use Rattle.pipe_types.specs.declared.room.Sent.{Sent}
-use Rattle.core_tables.proofs.Named.{rest_is}
 use Rattle.stage_buffer.specs.Waiting.{units_of_part, without_first}
 use Rattle.sent_laws.specs.Taken.{first_number, taken_each, left_each}
 

@@ -1,6 +1,6 @@
-use Rattle.std.proofs.Common.{◌≡◌, ℕ, ◌+◌, ◌<◌, ◌≤◌, ◌∷◌, [], length, drop, take, refl, ap, sym, ◌∙◌, subst, arith, get_or, ◌++◌}
+use Rattle.std.proofs.Common.{◌≡◌, ℕ, ◌+◌, ◌≤◌, ◌∷◌, length, drop, take, refl, ap, sym, ◌∙◌, subst, arith, get_or, ◌++◌}
 use Rattle.std.proofs.lemmas.List.{length-take, at_drop_all, append-nil, get_or_default}
-use Rattle.core_sends.specs.Batches.{served_alone, success, IsEndable}
+use Rattle.core_sends.specs.Batches.{served_alone, success}
 use Rattle.core_sends.proofs.LoneLog.{noted_more, room_more, room_first, front_unit}
 use Rattle.std.specs.List.{filter_map}
 use Rattle.core_sends.proofs.alone.note_alone.Goals as goal

@@ -1,4 +1,4 @@
-use Rattle.std.proofs.Common.{◌≡◌, ◌∙◌, ℕ, suc, ◌-◌, ◌≤◌, All, get_or, length, subst, arith, sym}
+use Rattle.std.proofs.Common.{◌≡◌, suc, ◌-◌, ◌≤◌, All, get_or, length, subst, arith}
 use Rattle.core_sends.specs.Batches.{numbers_of}
 use Rattle.core_sends.specs.Losing.{numbers_in}
 use Rattle.core_sends.proofs.Turns.{first_number_is}

@@ -1,6 +1,5 @@
-use Rattle.std.proofs.Common.{◌≡◌, ◌∙◌, arith, ap, refl, length, suc, ◌-◌, Some, ◌<◌}
+use Rattle.std.proofs.Common.{◌∙◌, arith, ap, refl, length, ◌-◌, ◌<◌}
 use Rattle.std.specs.Prelude.{slice_get}
-use Rattle.std.proofs.lemmas.List.{length-set}
 use Rattle.std.proofs.lemmas.Option.{slice_get_read}
 use Rattle.core_sends.proofs.Over.{lost_one, mark_one}
 use Rattle.core_sends.proofs.losing.lose.Goals as goal

@@ -1,4 +1,4 @@
-use Rattle.std.proofs.Common.{◌≡◌, ◌∙◌, arith, ap, refl, sym, subst, length, ℕ, suc, Some, None, ◌≤◌, List}
+use Rattle.std.proofs.Common.{◌∙◌, arith, ap, refl, sym, subst, length, ℕ, suc, ◌≤◌, List}
 use Rattle.std.specs.Prelude.{slice_get, option_map}
 use Rattle.pipe_laws.proofs.Lists.{Each}
 use Rattle.stage_buffer.specs.Waiting.{without_over}

@@ -1,4 +1,4 @@
-use Rattle.std.proofs.Common.{◌≡◌, ◌++◌, ◌∙◌, ℕ, List, [], drop, take, length, get_or, ap, sym, subst, true, arith}
+use Rattle.std.proofs.Common.{◌≡◌, ◌++◌, ◌∙◌, ℕ, List, [], drop, take, get_or, ap, sym, subst, true, arith}
 use Rattle.std.proofs.lemmas.List.{append-nil, drop_all, get_or-take, length-take-le}
 use Rattle.pipe_types.specs.Stages.{spec_of}
 use Rattle.pipe_model.specs.Flow.{batch, batch_waits_in, picks_by, view_of, waiting, kind_in}

@@ -1,4 +1,4 @@
-use Rattle.std.proofs.Common.{◌≡◌, ◌∙◌, arith}
+use Rattle.std.proofs.Common.{◌∙◌, arith}
 use Rattle.pipe_model.specs.Flow.{waiting}
 use Rattle.core_sends.proofs.Looking.{looked}
 use Rattle.core_sends.proofs.Queued.{live_within, many_read}

@@ -1,4 +1,4 @@
-use Rattle.std.proofs.Common.{rules, ℕ, ◌≡◌, ◌∙◌, arith, get_or, ap}
+use Rattle.std.proofs.Common.{rules, ◌≡◌, ◌∙◌, arith, get_or, ap}
 use Rattle.std.proofs.lemmas.List.{get_or_read}
 use Rattle.pipe_types.specs.declared.room.Sent.{Sent}
 use Rattle.core_tables.specs.Tables.{named}

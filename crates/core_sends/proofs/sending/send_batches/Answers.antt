@@ -1,4 +1,4 @@
-use Rattle.std.proofs.Common.{◌≡◌, ℕ, suc, ◌<◌, ◌≤◌, List, length, ◌∙◌, arith, refl, ap, sym, subst, All, drop, take, ◌++◌, [], ◌∷◌, true, Some}
+use Rattle.std.proofs.Common.{◌≡◌, ℕ, suc, ◌<◌, List, length, ◌∙◌, arith, refl, ap, sym, subst, All, drop, take, ◌++◌, [], ◌∷◌, Some}
 use Rattle.std.specs.Prelude.{option_map, slice_get, filter, not, ◌&&◌}
 use Rattle.std.specs.Vec.{with_item}
 use Rattle.std.proofs.lemmas.Option.{slice_get_read}
@@ -11,7 +11,6 @@ use Rattle.pipe_journal.specs.Recorded.{AckLog}
 use Rattle.message_ack.specs.Ends.{sent_in}
 use Rattle.stage_subs.specs.Subs.{row_at, sent_more}
 use Rattle.core_tables.specs.Tables.{queue_at, count_between}
-use Rattle.core_laws.specs.Columns.{waiting_parts}
 use Rattle.core_laws.proofs.Lawful.{legal_after}
 use Rattle.core_state.specs.declared.state.Core.{Core}
 use Rattle.core_state.specs.Stands.{Fields}
@@ -21,7 +20,7 @@ use Rattle.core_state.proofs.Steps.{holds_after, unowed_after, log_by, log_fits}
 use Rattle.core_sends.specs.Batches.{lone_of, served_alone, IsEndable, not_sent, with_legs, messages_of, subs_at}
 use Rattle.core_sends.specs.Leaving.{left_by}
 use Rattle.core_sends.specs.Losing.{numbers_in}
-use Rattle.core_sends.specs.Rooms.{planned, served_first}
+use Rattle.core_sends.specs.Rooms.{planned}
 use Rattle.core_sends.proofs.AfterBatches.{are_begun, batch_fields, still_stands_with}
 use Rattle.core_sends.proofs.BatchesSent.{units_closed, none_begun, none_noted}
 use Rattle.core_sends.proofs.LoneLog.{messages_alone, alone_acks, alone_rows}

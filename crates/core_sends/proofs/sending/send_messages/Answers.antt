@@ -1,19 +1,17 @@
-use Rattle.std.proofs.Common.{◌≡◌, ℕ, suc, ◌<◌, ◌≤◌, List, length, ◌∙◌, arith, refl, ap, sym, subst, map, All, ◌++◌, [], ◌∷◌, Some, true, false}
+use Rattle.std.proofs.Common.{◌≡◌, ℕ, suc, ◌<◌, ◌≤◌, List, length, ◌∙◌, arith, refl, ap, sym, subst, map, All, ◌++◌, [], ◌∷◌, Some}
 use Rattle.std.specs.Prelude.{option_map, slice_get}
 use Rattle.std.specs.Option.{option_copied}
 use Rattle.std.specs.List.{flat_map}
 use Rattle.std.specs.Vec.{with_item}
 use Rattle.std.proofs.lemmas.Option.{slice_get_read}
-use Rattle.pipe_types.specs.declared.room.Sent.{Sent}
 use Rattle.pipe_types.specs.declared.step.Step.TheVariants.{Dispatch}
 use Rattle.pipe_types.specs.Stages.{spec_of}
 use Rattle.pipe_model.specs.Flow.{waiting, deliveries, delivered_to, dispatched, batch, kind_in, unsent, numbers_in as batch_numbers}
 use Rattle.queue_laws.proofs.Alone.{none_alone}
-use Rattle.stage_buffer.specs.Waiting.{KeepsShape}
 use Rattle.stage_subs.specs.Subs.{row_at, sent_more}
 use Rattle.sent_laws.specs.Taken.{left_each}
 use Rattle.core_tables.specs.Tables.{queue_at, count_between}
-use Rattle.core_waits.specs.Waits.{free, Shape}
+use Rattle.core_waits.specs.Waits.{Shape}
 use Rattle.core_laws.specs.Columns.{waiting_parts}
 use Rattle.core_state.specs.declared.state.Core.{Core}
 use Rattle.core_state.specs.Stands.{Fields}
