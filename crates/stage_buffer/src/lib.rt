@@ -135,7 +135,7 @@ impl<T: Drop> Buffer<T> {
             return one_part(alloc, self.len as usize);
         }
         let mut arrivals = arrivals_in(alloc, &self.rings, self.len as usize)?;
-        arrivals.sort_unstable_by_key(|arrival| arrival.at);
+        arrivals.sort_by_key(|arrival| arrival.at)?;
         let items = values_of(alloc, &arrivals)?;
         Ok(PartList::from_vec(items))
     }
@@ -220,7 +220,7 @@ impl Buffer<u32> {
     {
         let alloc = *self.rings.allocator();
         let mut arrivals = numbered_in(alloc, &self.rings, self.len as usize)?;
-        arrivals.sort_unstable_by_key(|arrival| arrival.at);
+        arrivals.sort_by_key(|arrival| arrival.at)?;
         values_of(alloc, &arrivals)
     }
 

@@ -11,8 +11,8 @@ returns c =
     rw (← c.self.view_is)
     (subst (λ (ns : List ℕ). IfOk c.values_of.result (λ numbers. numbers.items ≡ ns))
     (ap (map (λ (a : Arrival). a.value)) c.deref-2.ensures.value
-    ∙ values_sorted number_in c.self.inside.rings.items c.in_ok-arrivals.arrivals.items c.sort_unstable_by_key.new.self.items (map (λ (a : Arrival). a.value) c.sort_unstable_by_key.new.self.items) c.self.invariant.orders.ascending
+    ∙ values_sorted number_in c.self.inside.rings.items c.in_ok-arrivals.arrivals.items c.sort_by_key.new.self.items (map (λ (a : Arrival). a.value) c.sort_by_key.new.self.items) c.self.invariant.orders.ascending
     (c.in_ok-arrivals.ensures ∙ ap (arrivals_from number_in 0) c.deref.ensures.value)
-    c.sort_unstable_by_key.ensures.permutation
-    (IsNonDecreasingBy-from_sort_by_key (λ (a : Arrival). a.at) _ c.sort_unstable_by_key.ensures.sorted (λ a r f q. search rules)) refl)
+    c.sort_by_key.ensures.permutation
+    (IsNonDecreasingBy-from_sort_by_key (λ (a : Arrival). a.at) _ c.in_ok-sort_by_key.ensures.sorted (λ a r f q. search rules)) refl)
     c.values_of.ensures)

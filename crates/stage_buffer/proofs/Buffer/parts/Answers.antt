@@ -15,8 +15,8 @@ pub returns : goal.returns
 returns g c =
     rw (← c.self.view_is)
     (c.from_vec.ensures
-    ∙ values_sorted part_of c.self.inside.rings.items c.in_ok-arrivals.arrivals.items c.sort_unstable_by_key.new.self.items c.in_ok-items.items.items c.self.invariant.orders.ascending
+    ∙ values_sorted part_of c.self.inside.rings.items c.in_ok-arrivals.arrivals.items c.sort_by_key.new.self.items c.in_ok-items.items.items c.self.invariant.orders.ascending
     (c.in_ok-arrivals.ensures ∙ ap (arrivals_from part_of 0) c.deref.ensures.value)
-    c.sort_unstable_by_key.ensures.permutation
-    (IsNonDecreasingBy-from_sort_by_key (λ (a : Arrival). a.at) _ c.sort_unstable_by_key.ensures.sorted (λ a r f q. search rules))
+    c.sort_by_key.ensures.permutation
+    (IsNonDecreasingBy-from_sort_by_key (λ (a : Arrival). a.at) _ c.in_ok-sort_by_key.ensures.sorted (λ a r f q. search rules))
     (c.in_ok-items.ensures ∙ ap (map (λ (a : Arrival). a.value)) c.deref-2.ensures.value))
