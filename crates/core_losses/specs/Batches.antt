@@ -24,9 +24,8 @@ use Rattle.core_waits.specs.Waits.{units_at}
 use Rattle.stage_buffer.specs.Waiting.{Waiting}
 use Rattle.core_state.specs.Settles.{AreNumbers}
 use Rattle.core_laws.specs.Columns.{ends_in_progress}
-use Rattle.core_deaths.specs.Reasons.{reason_at}
 use Rattle.core_losses.specs.Losses.{incarnation_at, loss_in}
-use Rattle.core_losses.specs.Legs.{leg_due, AreDue, SeenLegs, legs_after, leg_loss}
+use Rattle.core_losses.specs.Legs.{AreDue, SeenLegs, legs_after, leg_loss}
 
 -- the batch waits in the stage, which is a batcher and is killed
 abbrev pub drop_at : Option Loss → Role → (waits : Bool) → Option Loss
@@ -112,13 +111,3 @@ pub record AreSeen (due : SubNo → ℕ → Option Loss) (why : StageNo → Opti
   pub ends : (i : ℕ) → sent_in legs (suc i) ≡ ends_in_progress (batch (suc i))
   pub inside : (i : ℕ) (b : BatchNo) → slice_get places i ≡ Some (InBatch b) → (in_progress (batch b.0) ≡ true) × (among (numbers_in (batch b.0)) (suc i) ≡ true)
   pub members : (b i : ℕ) → in_progress (batch b) ≡ true → among (numbers_in (batch b)) (suc i) ≡ true → slice_get places i ≡ Some (InBatch (batch_no b))
-
--- Both, as the tables say it of a kill for these reasons
-
-abbrev pub BatchSeen : List StageRow → List PostRow → List (Waiting ℕ) → List (VecDeque (SubNo × ℕ) Global) → (killed : List (Option Why)) → List StageSpec → (batch count : ℕ) → BatchRow → List (ℕ × Ends) → Type 0
-BatchSeen rows posts waiting inboxes killed specs b count row legs =
-    SeenBatch (leg_due rows posts inboxes (reason_at killed)) (reason_at killed) (incarnation_at rows) (drop_due rows waiting (reason_at killed) specs b) b count row.numbers.items row.subs.items (sent_in legs b)
-
-abbrev pub BatchesSeen : List StageRow → List PostRow → List (Waiting ℕ) → List (VecDeque (SubNo × ℕ) Global) → (killed : List (Option Why)) → List StageSpec → List (ℕ × Ends) → List BatchRow → List Place → Type 0
-BatchesSeen rows posts waiting inboxes killed specs legs batches places =
-    AreSeen (leg_due rows posts inboxes (reason_at killed)) (reason_at killed) (incarnation_at rows) (drop_due rows waiting (reason_at killed) specs) legs batches places

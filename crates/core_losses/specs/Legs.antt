@@ -16,7 +16,6 @@ use Rattle.core_tables.specs.declared.rows.PostRow.{PostRow}
 use Rattle.core_tables.specs.Tables.{queue_at}
 use Rattle.core_tables.specs.Rows.{post_at}
 use Rattle.core_laws.specs.Columns.{ends_on}
-use Rattle.core_deaths.specs.Reasons.{reason_at}
 use Rattle.core_losses.specs.Losses.{incarnation_at, loss_in}
 
 abbrev pub is_crash : Why → Bool
@@ -100,7 +99,3 @@ pub record SeenLegs (due : SubNo → ℕ → Option Loss) (loss : SubNo → Opti
   pub place : BatchPlace
   pub stands : ends ≡ ends_on messages place
   pub dues : AreDue (λ u. due u batch) loss subs place
-
--- the same, as the tables say it of a kill for these reasons
-abbrev pub LegsSeen : List StageRow → List PostRow → List (VecDeque (SubNo × ℕ) Global) → (killed : List (Option Why)) → (batch : ℕ) → List SubNo → List (ℕ × Ends) → Type 0
-LegsSeen rows posts inboxes killed b subs legs = SeenLegs (leg_due rows posts inboxes (reason_at killed)) (leg_loss (reason_at killed) (incarnation_at rows)) b subs (sent_in legs b)

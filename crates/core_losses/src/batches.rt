@@ -5,10 +5,11 @@ ghost use Rattle.pipe_model.specs.{Flow.{among, by_batch}, Standing.{going}, Leg
 ghost use Rattle.message_ack.specs.{Ends.{sent_in, IsSettledBy}, declared.legs.Settled.{Settled as SettledSeen}};
 ghost use Rattle.core_laws.specs.Columns.{ends_on, ends_in_progress};
 ghost use Rattle.core_deaths.specs.Reasons.{reason_at};
-ghost use Rattle.core_losses.specs.{Losses.{incarnation_at, loss_in}, Legs.{LegsSeen}};
-ghost use Rattle.core_losses.specs.Batches.{drop_at, drop_in, drop_due, drop_of, BatchSeen, BatchesSeen, batch_lost, fate_legs, ended_in, marked_in, after_kill, left_batch};
+ghost use Rattle.core_losses.specs.{Kills.{why_of, lives_of, drop_by, LegsSeen, BatchSeen, BatchesSeen}, Losses.{incarnation_at, loss_in}};
+ghost use Rattle.core_losses.specs.Batches.{drop_at, drop_of, batch_lost, fate_legs, ended_in, marked_in, after_kill, left_batch};
 
 use crate::ends::end_all;
+use crate::kill::Kill;
 use crate::legs::lose_legs;
 use crate::messages::loss_of;
 use core_tables::place_table::PlaceTable;
@@ -53,19 +54,12 @@ fn drop_with(
 }
 
 /// How the batch is lost with the batcher in which it waits, and none where no killed one has it.
-fn dropped(
-    specs: &[StageSpec],
-    no: BatchNo,
-    rows: &[StageRow],
-    waiting: &[Buffer<u32>],
-    killed: &[Option<Why>],
-) -> Option<Loss>
-    requires rows { length rows.now ≡ length killed.now }
-    requires within { All (λ spec. spec.no.0 < length waiting.now) specs.now }
-    ensures { result ≡ drop_due rows.now waiting.now (reason_at killed.now) specs.now no.0 }
+fn dropped(kill: &Kill, no: BatchNo) -> Option<Loss>
+    ensures { result ≡ drop_by kill.now no.0 }
 {
-    for spec in specs {
-        let loss = drop_with(spec, no, rows, &waiting[spec.no.0 as usize], killed);
+    for spec in kill.specs {
+        let buffer = &kill.waiting[spec.no.0 as usize];
+        let loss = drop_with(spec, no, kill.rows, buffer, kill.killed);
         if loss.is_some() {
             return loss;
         }
@@ -74,31 +68,17 @@ fn dropped(
 }
 
 /// Notes what the kill makes of the batch's legs. Answers how the batch ended, where it did.
-fn settle_batch(
-    legs: &mut Legs,
-    subs: &[SubNo],
-    no: BatchNo,
-    specs: &[StageSpec],
-    rows: &[StageRow],
-    posts: &[PostRow],
-    waiting: &[Buffer<u32>],
-    inboxes: &[VecDeque<(SubNo, u32)>],
-    killed: &[Option<Why>],
-) -> Option<Settled>
-    requires rows { length rows.now ≡ length killed.now }
-    requires posts { length posts.now ≡ length killed.now * 16 }
-    requires inboxes { length inboxes.now ≡ length killed.now }
-    requires within { All (λ spec. spec.no.0 < length waiting.now) specs.now }
-    requires seen { LegsSeen rows.now posts.now inboxes.now killed.now no.0 subs.now legs.old }
-    ensures legs { (seen : LegsSeen rows.now posts.now inboxes.now killed.now no.0 subs.now legs.old) → drop_due rows.now waiting.now (reason_at killed.now) specs.now no.0 ≡ drop_of (reason_at killed.now) (incarnation_at rows.now) seen.place → sent_in legs.new no.0 ≡ ends_on seen.messages (batch_lost (reason_at killed.now) (incarnation_at rows.now) seen.place) }
-    ensures last { (seen : LegsSeen rows.now posts.now inboxes.now killed.now no.0 subs.now legs.old) → drop_due rows.now waiting.now (reason_at killed.now) specs.now no.0 ≡ drop_of (reason_at killed.now) (incarnation_at rows.now) seen.place → is_some result ≡ (going seen.place && not (going (batch_lost (reason_at killed.now) (incarnation_at rows.now) seen.place))) }
-    ensures ends { (seen : LegsSeen rows.now posts.now inboxes.now killed.now no.0 subs.now legs.old) → drop_due rows.now waiting.now (reason_at killed.now) specs.now no.0 ≡ drop_of (reason_at killed.now) (incarnation_at rows.now) seen.place → IfSome result (IsSettledBy seen.messages (fate_legs (batch_lost (reason_at killed.now) (incarnation_at rows.now) seen.place))) }
+fn settle_batch(legs: &mut Legs, subs: &[SubNo], no: BatchNo, kill: &Kill) -> Option<Settled>
+    requires seen { LegsSeen kill.now no.0 subs.now legs.old }
+    ensures legs { (seen : LegsSeen kill.now no.0 subs.now legs.old) → drop_by kill.now no.0 ≡ drop_of (why_of kill.now) (lives_of kill.now) seen.place → sent_in legs.new no.0 ≡ ends_on seen.messages (batch_lost (why_of kill.now) (lives_of kill.now) seen.place) }
+    ensures last { (seen : LegsSeen kill.now no.0 subs.now legs.old) → drop_by kill.now no.0 ≡ drop_of (why_of kill.now) (lives_of kill.now) seen.place → is_some result ≡ (going seen.place && not (going (batch_lost (why_of kill.now) (lives_of kill.now) seen.place))) }
+    ensures ends { (seen : LegsSeen kill.now no.0 subs.now legs.old) → drop_by kill.now no.0 ≡ drop_of (why_of kill.now) (lives_of kill.now) seen.place → IfSome result (IsSettledBy seen.messages (fate_legs (batch_lost (why_of kill.now) (lives_of kill.now) seen.place))) }
     ensures others { (b : ℕ) → (b == no.0) ≡ false → sent_in legs.new b ≡ sent_in legs.old b }
 {
     if !subs.is_empty() {
-        return lose_legs(legs, subs, no, rows, posts, inboxes, killed);
+        return lose_legs(legs, subs, no, kill);
     }
-    match dropped(specs, no, rows, waiting, killed) {
+    match dropped(kill, no) {
         Some(loss) => Some(Settled::Lost(loss)),
         None => None,
     }
@@ -111,32 +91,21 @@ fn lose_batch(
     legs: &mut Legs,
     row: &BatchRow,
     no: BatchNo,
-    specs: &[StageSpec],
-    rows: &[StageRow],
-    posts: &[PostRow],
-    waiting: &[Buffer<u32>],
-    inboxes: &[VecDeque<(SubNo, u32)>],
-    killed: &[Option<Why>],
+    kill: &Kill,
     mark: u64,
 )
-    requires rows { length rows.now ≡ length killed.now }
-    requires posts { length posts.now ≡ length killed.now * 16 }
-    requires inboxes { length inboxes.now ≡ length killed.now }
-    requires within { All (λ spec. spec.no.0 < length waiting.now) specs.now }
     requires marks { length marks.old.items ≡ length places.old.items }
-    requires seen { BatchSeen rows.now posts.now waiting.now inboxes.now killed.now specs.now no.0 (length places.old.items) row.now legs.old }
-    ensures legs { (seen : BatchSeen rows.now posts.now waiting.now inboxes.now killed.now specs.now no.0 (length places.old.items) row.now legs.old) → sent_in legs.new no.0 ≡ ends_on (length row.now.numbers.items) (batch_lost (reason_at killed.now) (incarnation_at rows.now) seen.legs.place) }
+    requires seen { BatchSeen kill.now no.0 (length places.old.items) row.now legs.old }
+    ensures legs { (seen : BatchSeen kill.now no.0 (length places.old.items) row.now legs.old) → sent_in legs.new no.0 ≡ ends_on (length row.now.numbers.items) (batch_lost (why_of kill.now) (lives_of kill.now) seen.legs.place) }
     ensures others { (b : ℕ) → (b == no.0) ≡ false → sent_in legs.new b ≡ sent_in legs.old b }
-    ensures places { (seen : BatchSeen rows.now posts.now waiting.now inboxes.now killed.now specs.now no.0 (length places.old.items) row.now legs.old) → (i : ℕ) → slice_get places.new.items i ≡ option_map (ended_in seen.legs.place (batch_lost (reason_at killed.now) (incarnation_at rows.now) seen.legs.place) row.now.numbers.items (suc i)) (slice_get places.old.items i) }
+    ensures places { (seen : BatchSeen kill.now no.0 (length places.old.items) row.now legs.old) → (i : ℕ) → slice_get places.new.items i ≡ option_map (ended_in seen.legs.place (batch_lost (why_of kill.now) (lives_of kill.now) seen.legs.place) row.now.numbers.items (suc i)) (slice_get places.old.items i) }
     ensures places_len { length places.new.items ≡ length places.old.items }
-    ensures marks { (seen : BatchSeen rows.now posts.now waiting.now inboxes.now killed.now specs.now no.0 (length places.old.items) row.now legs.old) → (i : ℕ) → slice_get marks.new.items i ≡ option_map (marked_in seen.legs.place (batch_lost (reason_at killed.now) (incarnation_at rows.now) seen.legs.place) row.now.numbers.items mark (suc i)) (slice_get marks.old.items i) }
+    ensures marks { (seen : BatchSeen kill.now no.0 (length places.old.items) row.now legs.old) → (i : ℕ) → slice_get marks.new.items i ≡ option_map (marked_in seen.legs.place (batch_lost (why_of kill.now) (lives_of kill.now) seen.legs.place) row.now.numbers.items mark (suc i)) (slice_get marks.old.items i) }
     ensures marks_len { length marks.new.items ≡ length marks.old.items }
     ensures places_capacity { vec_capacity places.new ≡ vec_capacity places.old }
     ensures marks_capacity { vec_capacity marks.new ≡ vec_capacity marks.old }
 {
-    let settled = settle_batch(
-        legs, &row.subs, no, specs, rows, posts, waiting, inboxes, killed,
-    );
+    let settled = settle_batch(legs, &row.subs, no, kill);
     end_all(places, marks, &row.numbers, settled, mark);
 }
 
@@ -147,25 +116,16 @@ pub(crate) fn lose_batches(
     marks: &mut Vec<u64>,
     legs: &mut Legs,
     batches: &[BatchRow],
-    specs: &[StageSpec],
-    rows: &[StageRow],
-    posts: &[PostRow],
-    waiting: &[Buffer<u32>],
-    inboxes: &[VecDeque<(SubNo, u32)>],
-    killed: &[Option<Why>],
+    kill: &Kill,
     mark: u64,
 )
-    requires rows { length rows.now ≡ length killed.now }
-    requires posts { length posts.now ≡ length killed.now * 16 }
-    requires inboxes { length inboxes.now ≡ length killed.now }
-    requires within { All (λ spec. spec.no.0 < length waiting.now) specs.now }
     requires marks { length marks.old.items ≡ length places.old.items }
     requires few { length batches.now < 2 ^ 32 }
-    requires seen { BatchesSeen rows.now posts.now waiting.now inboxes.now killed.now specs.now legs.old batches.now places.old.items }
-    ensures legs { (seen : BatchesSeen rows.now posts.now waiting.now inboxes.now killed.now specs.now legs.old batches.now places.old.items) → (i : ℕ) → sent_in legs.new (suc i) ≡ ends_in_progress (after_kill (reason_at killed.now) (incarnation_at rows.now) seen.batch (suc i)) }
-    ensures places { (seen : BatchesSeen rows.now posts.now waiting.now inboxes.now killed.now specs.now legs.old batches.now places.old.items) → (i : ℕ) → slice_get places.new.items i ≡ option_map (by_batch (after_kill (reason_at killed.now) (incarnation_at rows.now) seen.batch) (suc i)) (slice_get places.old.items i) }
+    requires seen { BatchesSeen kill.now legs.old batches.now places.old.items }
+    ensures legs { (seen : BatchesSeen kill.now legs.old batches.now places.old.items) → (i : ℕ) → sent_in legs.new (suc i) ≡ ends_in_progress (after_kill (why_of kill.now) (lives_of kill.now) seen.batch (suc i)) }
+    ensures places { (seen : BatchesSeen kill.now legs.old batches.now places.old.items) → (i : ℕ) → slice_get places.new.items i ≡ option_map (by_batch (after_kill (why_of kill.now) (lives_of kill.now) seen.batch) (suc i)) (slice_get places.old.items i) }
     ensures places_len { length places.new.items ≡ length places.old.items }
-    ensures marks { (seen : BatchesSeen rows.now posts.now waiting.now inboxes.now killed.now specs.now legs.old batches.now places.old.items) → (i : ℕ) → slice_get marks.new.items i ≡ option_map (λ old. if left_batch (after_kill (reason_at killed.now) (incarnation_at rows.now) seen.batch) (slice_get places.old.items i) then mark else old) (slice_get marks.old.items i) }
+    ensures marks { (seen : BatchesSeen kill.now legs.old batches.now places.old.items) → (i : ℕ) → slice_get marks.new.items i ≡ option_map (λ old. if left_batch (after_kill (why_of kill.now) (lives_of kill.now) seen.batch) (slice_get places.old.items i) then mark else old) (slice_get marks.old.items i) }
     ensures marks_len { length marks.new.items ≡ length marks.old.items }
     ensures places_capacity { vec_capacity places.new ≡ vec_capacity places.old }
     ensures marks_capacity { vec_capacity marks.new ≡ vec_capacity marks.old }
@@ -177,12 +137,7 @@ pub(crate) fn lose_batches(
             legs,
             &batches[at],
             BatchNo(at as u32 + 1),
-            specs,
-            rows,
-            posts,
-            waiting,
-            inboxes,
-            killed,
+            kill,
             mark,
         );
     }

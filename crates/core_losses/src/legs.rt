@@ -6,8 +6,9 @@ ghost use Rattle.pipe_model.specs.{Batches.{Leg, Sent}, Standing.{has_entry, goi
 ghost use Rattle.message_ack.specs.Ends.{sent_in};
 ghost use Rattle.core_laws.specs.Columns.{ends_on};
 ghost use Rattle.core_deaths.specs.Reasons.{reason_at};
-ghost use Rattle.core_losses.specs.{Losses.{incarnation_at, loss_in}, Legs.{works_in, loss_if, leg_due, leg_loss, IsOpenEnd, lost_at, SettledAs, LegsSeen, legs_after}};
+ghost use Rattle.core_losses.specs.{Kills.{why_of, lives_of, due_of, LegsSeen}, Legs.{works_in, loss_if, leg_loss, IsOpenEnd, lost_at, SettledAs, legs_after}};
 
+use crate::kill::Kill;
 use crate::messages::loss_of;
 use core_tables::posts::SLOTS;
 use core_tables::rows::{PostRow, StageRow};
@@ -47,25 +48,18 @@ fn only_if(due: bool, loss: Option<Loss>) -> Option<Loss>
 
 /// How the leg of the batch on this subscription is lost: as its consumer is killed, where the batch stands in the
 /// consumer's inbox or is at work there.
-fn loss_of_leg(
-    sub: SubNo,
-    no: BatchNo,
-    rows: &[StageRow],
-    posts: &[PostRow],
-    inboxes: &[VecDeque<(SubNo, u32)>],
-    killed: &[Option<Why>],
-) -> Option<Loss>
-    requires rows { length rows.now ≡ length killed.now }
-    requires posts { length posts.now ≡ length killed.now * 16 }
-    requires inboxes { length inboxes.now ≡ length killed.now }
-    ensures { result ≡ leg_due rows.now posts.now inboxes.now (reason_at killed.now) sub no.0 }
+fn loss_of_leg(kill: &Kill, sub: SubNo, no: BatchNo) -> Option<Loss>
+    ensures { result ≡ due_of kill.now sub no.0 }
 {
     let stage = sub.consumer.0 as usize;
-    match killed.get(stage) {
+    match kill.killed.get(stage) {
         Some(Some(why)) => {
-            let waits = has_unit(&inboxes[stage], sub, no.0);
-            let works = works_on(rows[stage], posts[stage * SLOTS], *why, no);
-            only_if(waits || works, loss_of(rows, killed, sub.consumer))
+            let waits = has_unit(&kill.inboxes[stage], sub, no.0);
+            let works = works_on(kill.rows[stage], kill.posts[stage * SLOTS], *why, no);
+            only_if(
+                waits || works,
+                loss_of(kill.rows, kill.killed, sub.consumer),
+            )
         }
         _ => None,
     }
@@ -98,23 +92,17 @@ pub(crate) fn lose_legs(
     legs: &mut Legs,
     subs: &[SubNo],
     no: BatchNo,
-    rows: &[StageRow],
-    posts: &[PostRow],
-    inboxes: &[VecDeque<(SubNo, u32)>],
-    killed: &[Option<Why>],
+    kill: &Kill,
 ) -> Option<Settled>
-    requires rows { length rows.now ≡ length killed.now }
-    requires posts { length posts.now ≡ length killed.now * 16 }
-    requires inboxes { length inboxes.now ≡ length killed.now }
-    requires seen { LegsSeen rows.now posts.now inboxes.now killed.now no.0 subs.now legs.old }
-    ensures legs { (seen : LegsSeen rows.now posts.now inboxes.now killed.now no.0 subs.now legs.old) → sent_in legs.new no.0 ≡ ends_on seen.messages (legs_after (leg_loss (reason_at killed.now) (incarnation_at rows.now)) seen.place) }
-    ensures last { (seen : LegsSeen rows.now posts.now inboxes.now killed.now no.0 subs.now legs.old) → is_some result ≡ (going seen.place && not (going (legs_after (leg_loss (reason_at killed.now) (incarnation_at rows.now)) seen.place))) }
-    ensures ends { (seen : LegsSeen rows.now posts.now inboxes.now killed.now no.0 subs.now legs.old) → IfSome result (SettledAs seen.messages (legs_after (leg_loss (reason_at killed.now) (incarnation_at rows.now)) seen.place)) }
+    requires seen { LegsSeen kill.now no.0 subs.now legs.old }
+    ensures legs { (seen : LegsSeen kill.now no.0 subs.now legs.old) → sent_in legs.new no.0 ≡ ends_on seen.messages (legs_after (leg_loss (why_of kill.now) (lives_of kill.now)) seen.place) }
+    ensures last { (seen : LegsSeen kill.now no.0 subs.now legs.old) → is_some result ≡ (going seen.place && not (going (legs_after (leg_loss (why_of kill.now) (lives_of kill.now)) seen.place))) }
+    ensures ends { (seen : LegsSeen kill.now no.0 subs.now legs.old) → IfSome result (SettledAs seen.messages (legs_after (leg_loss (why_of kill.now) (lives_of kill.now)) seen.place)) }
     ensures others { (b : ℕ) → (b == no.0) ≡ false → sent_in legs.new b ≡ sent_in legs.old b }
 {
     let mut settled = None;
     for leg in 0..subs.len() {
-        let loss = loss_of_leg(subs[leg], no, rows, posts, inboxes, killed);
+        let loss = loss_of_leg(kill, subs[leg], no);
         settled = lose_leg(legs, no, leg, loss, settled);
     }
     settled

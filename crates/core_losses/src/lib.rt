@@ -8,6 +8,7 @@
 
 mod batches;
 mod ends;
+mod kill;
 mod legs;
 pub mod losses;
 mod messages;

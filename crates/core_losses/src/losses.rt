@@ -5,6 +5,7 @@ ghost use Rattle.core_state.specs.Stands.{Holds};
 ghost use Rattle.core_losses.specs.Lost.{AreLost, IsKill};
 
 use crate::batches::lose_batches;
+use crate::kill::Kill;
 use crate::messages::lose_messages;
 use core_state::Core;
 use pipe_types::message::Why;
@@ -20,24 +21,21 @@ pub fn lose_held(core: &mut Core, killed: &[Option<Why>])
     ensures rest { core.new ≡ record core.old { places = core.new.places; settled = core.new.settled; legs = core.new.legs } }
 {
     let mark = core.journal.len();
+    let kill = Kill {
+        specs: core.topology.stages.as_slice(),
+        rows: &core.stages,
+        posts: &core.posts,
+        waiting: &core.waiting,
+        inboxes: &core.inboxes,
+        killed,
+    };
     lose_batches(
         &mut core.places,
         &mut core.settled,
         &mut core.legs,
         &core.batches,
-        core.topology.stages.as_slice(),
-        &core.stages,
-        &core.posts,
-        &core.waiting,
-        &core.inboxes,
-        killed,
+        &kill,
         mark,
     );
-    lose_messages(
-        &mut core.places,
-        &mut core.settled,
-        &core.stages,
-        killed,
-        mark,
-    );
+    lose_messages(&mut core.places, &mut core.settled, kill.rows, killed, mark);
 }

@@ -1,8 +1,7 @@
 use Rattle.std.proofs.Common.{◌≡◌, suc, length, ap, sym, ◌∙◌, refl, arith, Some}
 use Rattle.std.specs.Prelude.{slice_get, option_map}
 use Rattle.std.proofs.lemmas.Option.{slice_get-get_or}
-use Rattle.core_deaths.specs.Reasons.{reason_at}
-use Rattle.core_losses.specs.Losses.{incarnation_at}
+use Rattle.core_losses.specs.Kills.{why_of, lives_of}
 use Rattle.core_losses.specs.Batches.{batch_lost, ended_in, marked_in}
 use Rattle.core_losses.proofs.BatchesLost.{ends_start, places_start, marks_start, places_end, marks_end, ends_end, row_seen, ends_turn, place_turn, mark_turn}
 use Rattle.core_losses.proofs.batches.lose_batches.Goals.{After-index-batches-at}
@@ -32,8 +31,8 @@ lose_batch-requires-clause-seen c =
 
 pub loop-at-preserved : goal.loop-at-preserved
 loop-at-preserved c =
-    let why = reason_at c.args.killed.now in
-    let inc = incarnation_at c.args.rows.now in
+    let why = why_of c.args.kill.now in
+    let inc = lives_of c.args.kill.now in
     let l = c.loop-at in
     let row = c.index-batches-at.result in
     let here = row_here (goal.at.loop-at-preserved c).After-index-batches-at in

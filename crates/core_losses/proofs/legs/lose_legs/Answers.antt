@@ -7,17 +7,16 @@ use Rattle.pipe_model.specs.Batches.{BatchPlace}
 use Rattle.pipe_model.specs.Standing.{going}
 use Rattle.message_ack.specs.Ends.{sent_in}
 use Rattle.core_laws.specs.Columns.{ends_on}
-use Rattle.core_deaths.specs.Reasons.{reason_at}
-use Rattle.core_losses.specs.Losses.{incarnation_at}
-use Rattle.core_losses.specs.Legs.{leg_due, leg_loss, SettledAs}
+use Rattle.core_losses.specs.Kills.{why_of, lives_of, due_of}
+use Rattle.core_losses.specs.Legs.{leg_loss, SettledAs}
 use Rattle.core_losses.proofs.LegsLost.{due_at, turn_open, turn_kept, turn_last, turn_settled, upto_all}
 use Rattle.core_losses.proofs.legs.lose_legs.Goals as goal
 
 pub lose_leg-settled-requires : goal.lose_leg-settled-requires
 lose_leg-settled-requires c =
     let l = c.loop-leg in
-    let due = λ (u : SubNo). leg_due c.args.rows.now c.args.posts.now c.args.inboxes.now (reason_at c.args.killed.now) u c.args.no.0 in
-    let loss = leg_loss (reason_at c.args.killed.now) (incarnation_at c.args.rows.now) in
+    let due = λ (u : SubNo). due_of c.args.kill.now u c.args.no.0 in
+    let loss = leg_loss (why_of c.args.kill.now) (lives_of c.args.kill.now) in
     let e = subscription (stage 0) (stage 0) 0 in
     let u : SubNo = get_or c.args.subs.now l.leg e in
     let seen = c.requires.seen in
@@ -27,8 +26,8 @@ lose_leg-settled-requires c =
 pub loop-leg-preserved : goal.loop-leg-preserved
 loop-leg-preserved c =
     let l = c.loop-leg in
-    let due = λ (u : SubNo). leg_due c.args.rows.now c.args.posts.now c.args.inboxes.now (reason_at c.args.killed.now) u c.args.no.0 in
-    let loss = leg_loss (reason_at c.args.killed.now) (incarnation_at c.args.rows.now) in
+    let due = λ (u : SubNo). due_of c.args.kill.now u c.args.no.0 in
+    let loss = leg_loss (why_of c.args.kill.now) (lives_of c.args.kill.now) in
     let e = subscription (stage 0) (stage 0) 0 in
     let u : SubNo = get_or c.args.subs.now l.leg e in
     let x = c.loss_of_leg-loss.result in
@@ -46,20 +45,20 @@ loop-leg-preserved c =
 pub returns-clause-legs : goal.returns-clause-legs
 returns-clause-legs c =
     let l = c.loop-leg in
-    let due = λ (u : SubNo). leg_due c.args.rows.now c.args.posts.now c.args.inboxes.now (reason_at c.args.killed.now) u c.args.no.0 in
-    let loss = leg_loss (reason_at c.args.killed.now) (incarnation_at c.args.rows.now) in
+    let due = λ (u : SubNo). due_of c.args.kill.now u c.args.no.0 in
+    let loss = leg_loss (why_of c.args.kill.now) (lives_of c.args.kill.now) in
     λ seen. l.invariant.ends seen ∙ ap (ends_on seen.messages) (upto_all l.leg loss due c.args.subs.now seen.place seen.dues (omega arith))
 
 pub returns-clause-last : goal.returns-clause-last
 returns-clause-last c =
     let l = c.loop-leg in
-    let due = λ (u : SubNo). leg_due c.args.rows.now c.args.posts.now c.args.inboxes.now (reason_at c.args.killed.now) u c.args.no.0 in
-    let loss = leg_loss (reason_at c.args.killed.now) (incarnation_at c.args.rows.now) in
+    let due = λ (u : SubNo). due_of c.args.kill.now u c.args.no.0 in
+    let loss = leg_loss (why_of c.args.kill.now) (lives_of c.args.kill.now) in
     λ seen. l.invariant.last seen ∙ ap (λ p. going seen.place && not (going p)) (upto_all l.leg loss due c.args.subs.now seen.place seen.dues (omega arith))
 
 pub returns-clause-ends : goal.returns-clause-ends
 returns-clause-ends c =
     let l = c.loop-leg in
-    let due = λ (u : SubNo). leg_due c.args.rows.now c.args.posts.now c.args.inboxes.now (reason_at c.args.killed.now) u c.args.no.0 in
-    let loss = leg_loss (reason_at c.args.killed.now) (incarnation_at c.args.rows.now) in
+    let due = λ (u : SubNo). due_of c.args.kill.now u c.args.no.0 in
+    let loss = leg_loss (why_of c.args.kill.now) (lives_of c.args.kill.now) in
     λ seen. subst (λ (p : BatchPlace). IfSome l.settled (SettledAs seen.messages p)) (upto_all l.leg loss due c.args.subs.now seen.place seen.dues (omega arith)) (l.invariant.settled seen)
