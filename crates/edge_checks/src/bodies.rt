@@ -117,7 +117,7 @@ pub fn fetch(told: &mut Told) -> Result<(), AllocError> {
     };
     let mut body: MemBody = Body {
         callback: None,
-        source: Some(Feed::Lines(lines)),
+        source: Some(Feed::Lines(Box::new(told.alloc, lines)?)),
         sink: None,
     };
     fetch_two(told, &mut body)?;
@@ -217,7 +217,7 @@ pub fn filled(told: &mut Told) -> Result<(), AllocError> {
 fn fill<B: Houses<MemSource, MemSink>>(alloc: Global, body: &mut B) -> Result<(), AllocError> {
     let source = source_of(alloc, "a", "")?;
     if let Ok(lines) = LineSource::new(alloc, source) {
-        body.put_source(Feed::Lines(lines));
+        body.put_source(Feed::Lines(Box::new(alloc, lines)?));
     }
     body.put_sink(sink_of(alloc, "x", 9, "")?);
     Ok(())

@@ -67,21 +67,24 @@ pub(crate) fn gate_at(rate: &Option<Rate>, count: u32, index: u16) -> Option<Gat
     }
 }
 
-/// The source in this gate, to be read by lines. For want of memory it comes back.
+/// The source in this gate, to be read by lines, in a box. For want of memory it comes back.
 #[tactic(auto, using(crate::proofs::Gating::gated_is))]
 pub(crate) fn gated_lines<S: ByteSource>(
     alloc: Global,
     source: S,
     gate: Option<Gate>,
-) -> Result<LineSource<GatedSource<S>>, (S, AllocError)>
+) -> Result<Box<LineSource<GatedSource<S>>>, (S, AllocError)>
     requires begun { IfSome gate (λ g. (moment_of g ≡ 0) × (given_of g ≡ 0)) }
     ensures lines { IfOk result (λ lines. IsGated (option_map pace_of gate) (⟦<S as SeenSource>⟧.seen source)
-        (line_seen ⟦<GatedSource<S> as ByteSource>⟧ lines)) }
+        (line_seen ⟦<GatedSource<S> as ByteSource>⟧ lines.value)) }
     ensures err { IfErr result (λ e. e.0 ≡ source) }
 {
     match GatedSource::new(alloc, source, gate) {
         Ok(gated) => match LineSource::new(alloc, gated) {
-            Ok(lines) => Ok(lines),
+            Ok(lines) => match Box::new(alloc, lines) {
+                Ok(lines) => Ok(lines),
+                Err(refused) => Err((refused.value.into_inner().into_inner(), AllocError)),
+            },
             Err((gated, error)) => Err((gated.into_inner(), error)),
         },
         Err((source, error)) => Err((source, error)),

@@ -1,9 +1,10 @@
 //! The sources of a merge, opened and given back in the order of their names.
 
 ghost use Rattle.std.specs.Prelude.{◌≡◌, ◌≤◌, [], Some, length, map, IfOk, IfErr, IsSome, OnOk, OnErr};
-ghost use Rattle.stage_bodies.specs.Seen.{merge_seen};
+ghost use Rattle.stage_bodies.specs.Seen.{merge_seen, source_seen};
 ghost use Rattle.edge_names.specs.{Supplies.{feed_calls, merge_count, merged_names, under_names}, Opened.{Asks, GiveSources, IfCutOff, IfFailed, IsMergeOf, IsOneCut, IsOneFailed}};
 ghost use Rattle.edge_names.specs.Returned.{GivesBack, GivesOff, IsBackUpTo};
+ghost use Rattle.line_merge.specs.{Seen.{AreMergedFrom}, Streams.{sources_of}};
 
 use crate::gates::{take_off, ungated};
 use crate::opening::Unopened;
@@ -89,27 +90,47 @@ pub(crate) fn open_streams<E: Edges, S: Supply<E>>(
     Ok(sources)
 }
 
-/// The merge of these sources. For want of memory they go back, as far as there is memory for that.
+/// The merge of these sources, in a box. For want of memory they go back, as far as there is memory for that.
 pub(crate) fn merge_of<E: Edges, S: Supply<E>>(
     alloc: Global,
     supply: &S,
     spec: &StageSpec,
     sources: Vec<GatedSource<S::Source>>,
     edges: &mut E,
-) -> Result<LineMerge<GatedSource<S::Source>>, AllocError>
+) -> Result<Box<LineMerge<GatedSource<S::Source>>>, AllocError>
     requires merged { IsSome (merge_count (S.feeds supply.now spec.now)) }
     requires some { 2 ≤ length sources.items }
     requires few { length sources.items ≤ 64 }
-    ensures merge { IfOk result (λ merge. IsMergeOf (map (⟦<GatedSource<S::Source> as SeenSource>⟧.seen) sources.items) (merge_seen ⟦<GatedSource<S::Source> as ByteSource>⟧ merge)) }
+    ensures merge { IfOk result (λ merge. IsMergeOf (map (⟦<GatedSource<S::Source> as SeenSource>⟧.seen) sources.items) (merge_seen ⟦<GatedSource<S::Source> as ByteSource>⟧ merge.value)) }
     ensures untouched { OnOk result (edges.new ≡ edges.old) }
     ensures returned { OnErr result (IsBackUpTo (under_names (merged_names (S.feeds supply.now spec.now)) (map (⟦<GatedSource<S::Source> as SeenSource>⟧.seen) sources.items))
         (⟦<E as SeenEdges>⟧.seen edges.old) (⟦<E as SeenEdges>⟧.seen edges.new)) }
 {
-    match LineMerge::new(alloc, SourceList::from_vec(sources)) {
+    match boxed_merge(alloc, SourceList::from_vec(sources)) {
         Ok(merge) => Ok(merge),
         Err((sources, error)) => {
             let _ = back_streams(supply, spec, sources.into_vec(), edges);
             Err(error)
         }
+    }
+}
+
+/// The merge of these sources, in a box. For want of memory they come back as they were.
+fn boxed_merge<B: ByteSource + Drop>(
+    alloc: Global,
+    sources: SourceList<B>,
+) -> Result<Box<LineMerge<B>>, (SourceList<B>, AllocError)>
+    requires some { 2 ≤ length sources }
+    requires few { length sources ≤ 64 }
+    ensures merged { IfOk result (λ m. AreMergedFrom (map (source_seen B.ByteSource) sources) (merge_seen B.ByteSource m.value) []) }
+    ensures sources { IfOk result (λ m. sources_of m.value ≡ sources) }
+    ensures err { IfErr result (λ e. e.0 ≡ sources) }
+{
+    match LineMerge::new(alloc, sources) {
+        Ok(merge) => match Box::new(alloc, merge) {
+            Ok(merge) => Ok(merge),
+            Err(refused) => Err((refused.value.into_sources(), AllocError)),
+        },
+        Err(back) => Err(back),
     }
 }

@@ -28,8 +28,8 @@ pub data FeedSeen : Type 0 where
   Merged : (merge : MergeSeen) → FeedSeen
 
 abbrev pub feed_seen : {S : Type 0} → SourceOf S → Feed S → FeedSeen
-feed_seen source (feed.Lines lines) = Single (line_seen source lines)
-feed_seen source (feed.Merge merge) = Merged (merge_seen source merge)
+feed_seen source (feed.Lines lines) = Single (line_seen source lines.value)
+feed_seen source (feed.Merge merge) = Merged (merge_seen source merge.value)
 
 -- its sources, in order
 abbrev pub sources_in : FeedSeen → List SourceSeen

@@ -6,11 +6,11 @@ ghost use Rattle.stage_bodies.specs.Seen.{feed_seen, sources_out, sources_seen};
 use line_merge::{LineMerge, SourceList};
 use pipe_edges::{ByteSource, LineSource};
 
-/// The lines of one source, or of the sources of a merge.
+/// The lines of one source, or of the sources of a merge. They stand on the heap, since bodies are moved with each job.
 #[derive(Drop)]
 pub enum Feed<S> {
-    Lines(LineSource<S>),
-    Merge(LineMerge<S>),
+    Lines(Box<LineSource<S>>),
+    Merge(Box<LineMerge<S>>),
 }
 
 /// The sources of a feed, in order.
@@ -27,8 +27,8 @@ impl<S: ByteSource + Drop> Feed<S> {
         ensures { sources_seen S.ByteSource result ≡ sources_out (feed_seen S.ByteSource self) }
     {
         match self {
-            Feed::Lines(lines) => FeedSources::One(lines.into_inner()),
-            Feed::Merge(merge) => FeedSources::Many(merge.into_sources()),
+            Feed::Lines(lines) => FeedSources::One(Box::into_inner(lines).into_inner()),
+            Feed::Merge(merge) => FeedSources::Many(Box::into_inner(merge).into_sources()),
         }
     }
 }

@@ -9,7 +9,7 @@ use Rattle.edge_names.proofs.merging.merge_of.Goals as goal
 
 pub returns-in-Ok-clause-merge : goal.returns-in-Ok-clause-merge
 returns-in-Ok-clause-merge g c =
-    merge_is (ghosts g.row.S-Source g.S.Source.ByteSource g.S.Source.ByteSource-dict) c.in-Ok.merge c.args.sources.items (c.in-Ok.ensures.sources ∙ c.from_vec.ensures)
+    merge_is (ghosts g.row.S-Source g.S.Source.ByteSource g.S.Source.ByteSource-dict) c.in-Ok.merge.value c.args.sources.items (c.in-Ok.ensures.sources ∙ c.from_vec.ensures)
     (rw c.from_vec.ensures at c.in-Ok.ensures.merged)
 
 pub returns-in-Err-clause-returned : goal.returns-in-Err-clause-returned
