@@ -1,7 +1,5 @@
 -- What a kill makes of batches and of their messages.
 use Rattle.std.specs.Prelude.{◌≡◌, ℕ, suc, ◌≤◌, Bool, true, false, if◌then◌else◌, not, ◌&&◌, ◌==◌, List, [], ◌∷◌, map, length, Option, Some, None, is_some, option_map, slice_get, unwrap_or, position}
-use Rattle.std.specs.declared.alloc.Global.{Global}
-use Rattle.std.specs.declared.collections.VecDeque.{VecDeque}
 use Rattle.pipe_types.specs.declared.numbers.StageNo.{StageNo}
 use Rattle.pipe_types.specs.declared.numbers.SubNo.{SubNo}
 use Rattle.pipe_types.specs.declared.numbers.BatchNo.{BatchNo}
@@ -18,7 +16,6 @@ use Rattle.pipe_model.specs.Legal.{is_batcher_role}
 use Rattle.pipe_model.specs.Standing.{going, in_progress}
 use Rattle.message_ack.specs.Ends.{Ends, sent_in}
 use Rattle.core_tables.specs.declared.rows.StageRow.{StageRow}
-use Rattle.core_tables.specs.declared.rows.PostRow.{PostRow}
 use Rattle.core_tables.specs.declared.rows.BatchRow.{BatchRow}
 use Rattle.core_waits.specs.Waits.{units_at}
 use Rattle.stage_buffer.specs.Waiting.{Waiting}

@@ -10,7 +10,7 @@ use Rattle.pipe_types.specs.declared.message.Loss.{Loss}
 use Rattle.pipe_model.specs.Batches.{BatchPlace, Sent, Leg, LegPlace, InInbox, AtWork, LegLost, on_legs}
 use Rattle.pipe_model.specs.Standing.{has_entry}
 use Rattle.message_ack.specs.declared.legs.Settled.{Settled}
-use Rattle.message_ack.specs.Ends.{Ends, IsSettledBy, sent_in}
+use Rattle.message_ack.specs.Ends.{Ends, IsSettledBy}
 use Rattle.core_tables.specs.declared.rows.StageRow.{StageRow}
 use Rattle.core_tables.specs.declared.rows.PostRow.{PostRow}
 use Rattle.core_tables.specs.Tables.{queue_at}

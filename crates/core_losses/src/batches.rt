@@ -58,8 +58,8 @@ fn dropped(kill: &Kill, no: BatchNo) -> Option<Loss>
     ensures { result ≡ drop_by kill.now no.0 }
 {
     for spec in kill.specs {
-        let buffer = &kill.waiting[spec.no.0 as usize];
-        let loss = drop_with(spec, no, kill.rows, buffer, kill.killed);
+        let at = spec.no.0 as usize;
+        let loss = drop_with(spec, no, kill.rows, &kill.waiting[at], kill.killed);
         if loss.is_some() {
             return loss;
         }
