@@ -44,7 +44,7 @@ returns-in-Ok-merge_of-clause-opens g c = λ pace.
     let mid = seen c.open_streams.new.edges in
     let start = body_at g.B.Works.look c.args.bodies.now.items in
     let now = body_at g.B.Works.look c.set_source.new.bodies.items in
-    let read = merge_seen row c.in-Ok-merge_of.merge in
+    let read = merge_seen row c.in-Ok-merge_of.merge.value in
     let given = merge_given old names (map (source_seen row) c.in-Ok.sources.items) read (omega (arith, merge.1, some)) (omega (arith, merge.1, few)) c.in-Ok.ensures.gives c.in-Ok-merge_of.ensures.merge in
     let asks = subst (λ f. Asks (feed_calls f) old mid) merge.0 c.in-Ok.ensures.asks in
     let opened = merge_opened {T = Unit {0}} tt pace names (MergedSeen read) c.args.at old mid start now asks (λ was. given) c.set_source.ensures.others in
