@@ -1,6 +1,6 @@
 -- What is known of an accept that is legal.
-use Rattle.std.proofs.Common.{◌≡◌, ℕ, ◌*◌, ◌≤◌, List, length, true, false, refl, ap, sym, ◌∙◌, Some, None, arith}
-use Rattle.std.specs.Prelude.{◌&&◌, ◌||◌, ◌==◌, nat_le, is_some, slice_get}
+use Rattle.std.proofs.Common.{◌≡◌, ℕ, ◌*◌, ◌<◌, ◌≤◌, List, length, true, false, refl, ap, sym, ◌∙◌, subst, Some, None, Option, arith}
+use Rattle.std.specs.Prelude.{◌&&◌, ◌||◌, ◌==◌, nat_le, is_some, slice_get, if◌then◌else◌, option_map, IfSome}
 use Rattle.std.proofs.lemmas.Bool.{eqb-true, leb-true}
 use Rattle.std.specs.declared.alloc.Global.{Global}
 use Rattle.pipe_types.specs.declared.numbers.StageNo.{StageNo}
@@ -11,6 +11,8 @@ use Rattle.pipe_types.specs.declared.topology.Role.TheVariants.{Producer}
 use Rattle.pipe_types.specs.declared.topology.Dispatch.{Dispatch as DispatchKind}
 use Rattle.pipe_types.specs.declared.topology.Dispatch.TheVariants.{Demand, Broadcast, Partition}
 use Rattle.pipe_types.specs.declared.step.Step.TheVariants.{Accept}
+use Rattle.pipe_types.specs.Dispatchers.{partition_of}
+use Rattle.pipe_types.specs.Handlers.{field}
 use Rattle.pipe_types.specs.Lines.{max_bytes}
 use Rattle.pipe_types.specs.Sound.{IsSound, has_fields_of, by_demand, by_partition, processors, is_size}
 use Rattle.pipe_types.specs.Stages.{spec_of}
@@ -20,12 +22,16 @@ use Rattle.pipe_laws.proofs.Allowed.{accept_role}
 use Rattle.pipe_laws.proofs.Tests.{and_left, and_right, clash}
 use Rattle.queue_laws.proofs.Sounds.{sound_fields}
 use Rattle.stage_laws.proofs.Numbering.{numbered_topology}
-use Rattle.core_waits.specs.Waits.{free_at, free_in, free}
+use Rattle.core_waits.specs.Waits.{Shape, shape_of, shape_for, parts_by, free_at, free_in, free}
+use Rattle.core_waits.proofs.Parts.{partition_low}
 use Rattle.stage_buffer.specs.Waiting.{Waiting}
 use Rattle.core_laws.specs.Columns.{is_by_partition}
+use Rattle.core_laws.specs.Enrolled.{record_part}
 use Rattle.core_laws.specs.Laws.{AcceptLaws}
 use Rattle.core_laws.proofs.Accepting.{bytes_few, accept_small}
 use Rattle.core_laws.proofs.Lawful.{lawful}
+use Rattle.core_state.specs.declared.state.Core.{Core}
+use Rattle.core_state.specs.Stands.{Holds}
 use Rattle.core_accepts.specs.Records.{HasParts}
 
 producer_only : (role : Role) → is_producer_role role ≡ true → role ≡ Producer
@@ -84,6 +90,21 @@ bringing topology before s records sound legal h =
 pub there : (topology : Topology) (s : StageNo) → has_role topology s is_producer_role ≡ true → None ≡ spec_of topology s → ⊥
 there topology s h none = let wrong : has_role topology s is_producer_role ≡ false = rw (sym none) refl in clash (has_role topology s is_producer_role) h wrong
 
--- the room of the stage's queue
+-- the partition of a record is one of its producer's buffer
+pub record_low : (spec : StageSpec) (bytes : List ℕ) (w : Waiting ℕ) → HasParts spec → shape_of w ≡ shape_for spec → record_part spec bytes < w.parts
+record_low spec bytes w has shape = let parts : w.parts ≡ parts_by spec.dispatch spec.parts = ap (λ (s : Shape). s.parts) shape in omega (arith, parts, by spec.dispatch has.parts)
+  where
+    by : (d : DispatchKind) → (is_by_partition d ≡ true → 1 ≤ spec.parts) → (if is_by_partition d then partition_of (field spec.field bytes) spec.parts else 0) < parts_by d spec.parts
+    by Partition some = partition_low (field spec.field bytes) spec.parts (some refl)
+    by Demand some = omega arith
+    by Broadcast some = omega arith
+
+-- the stage's buffer has the shape that the stage wants
+pub shape_here : (core : Core) (s : StageNo) (spec : StageSpec) (q : Waiting ℕ) → Holds core → spec_of core.topology s ≡ Some spec → slice_get core.waiting.items s.0 ≡ Some q → shape_of q ≡ shape_for spec
+shape_here core s spec q x found here =
+    let is : Some (shape_of q) ≡ Some (shape_for spec) = sym (ap (option_map shape_of) here) ∙ x.fields.set.waiting s spec found in
+    subst (λ (o : Option Shape). IfSome o (λ shape. shape ≡ shape_for spec)) (sym is) refl
+
+-- the room of the stage's buffer
 pub queue_room : (queues : List (Waiting ℕ)) (s : StageNo) (q : Waiting ℕ) → slice_get queues s.0 ≡ Some q → free_at queues s ≡ free q
 queue_room queues s q here = ap free_in here

@@ -1,9 +1,9 @@
 -- The fields after an accept.
-use Rattle.std.proofs.Common.{◌≡◌, ◌≢◌, ℕ, suc, ◌+◌, ◌≤◌, List, ◌∷◌, ◌++◌, map, length, replicate, set, true, false, ap, sym, ◌∙◌, Some, arith, inl, inr}
+use Rattle.std.proofs.Common.{◌≡◌, ◌≢◌, ℕ, suc, ◌+◌, ◌≤◌, List, ◌∷◌, ◌++◌, map, length, replicate, true, false, ap, sym, ◌∙◌, Some, arith, inl, inr}
 use Rattle.std.specs.Prelude.{slice_get, option_map, if◌then◌else◌, ◌==◌, ◌⊎◌}
 use Rattle.std.specs.declared.alloc.Global.{Global}
 use Rattle.std.specs.declared.vec.Vec.{Vec}
-use Rattle.std.proofs.lemmas.List.{length-set, length-append, length-replicate, map-append}
+use Rattle.std.proofs.lemmas.List.{length-append, length-replicate, map-append}
 use Rattle.pipe_types.specs.declared.numbers.StageNo.{StageNo}
 use Rattle.pipe_types.specs.declared.topology.Topology.{Topology}
 use Rattle.pipe_types.specs.declared.topology.StageSpec.{StageSpec}
@@ -22,19 +22,19 @@ use Rattle.core_tables.specs.declared.rows.PostRow.{PostRow}
 use Rattle.core_tables.specs.declared.rows.ContentRow.{ContentRow}
 use Rattle.core_tables.specs.declared.rows.Totals.{Totals}
 use Rattle.core_tables.specs.Rows.{post_at, home}
-use Rattle.core_tables.specs.Tables.{queue_at, contents_up}
-use Rattle.core_tables.proofs.Tables.{same_or_other, queue-set_same, queue-set_other}
+use Rattle.core_tables.specs.Tables.{contents_up}
+use Rattle.core_tables.proofs.Tables.{same_or_other}
 use Rattle.core_laws.specs.Columns.{post_row, part_of, waiting_parts, open_batches, at_record, mark}
 use Rattle.core_laws.specs.Enrolled.{queued}
 use Rattle.core_laws.specs.Laws.{AcceptLaws}
 use Rattle.core_laws.proofs.Accepting.{parts_old, parts_new, opens_kept, unsettled}
-use Rattle.core_waits.specs.Waits.{units_at}
+use Rattle.core_waits.specs.Waits.{units_at, shape_at}
 use Rattle.stage_buffer.specs.Waiting.{Waiting as Waits}
 use Rattle.core_state.specs.declared.state.Core.{Core}
 use Rattle.core_state.specs.Stands.{Fields}
 use Rattle.core_state.proofs.Ending.{post_home}
 use Rattle.core_tables.proofs.NewRows.{behind, placed_new, marked_new, contents_new, contents_count}
-use Rattle.core_state.proofs.Parts.{Part, ChunksAre, ContentsAre, ContentsLen, InboxesAre, OpensAre, PlacesAre, PlacesLen, PostsAre, PostsLen, ProducersAre, ProducersLen, SettledAre, SettledLen, TotalsAre, WaitingAre, WaitingLen, Says, unchanged, fields_of}
+use Rattle.core_state.proofs.Parts.{Part, ChunksAre, ContentsAre, ContentsLen, InboxesAre, OpensAre, PlacesAre, PlacesLen, PostsAre, PostsLen, ProducersAre, ProducersLen, SettledAre, SettledLen, TotalsAre, WaitingAre, WaitingLen, WaitingSet, Says, unchanged, fields_of}
 
 -- the records wait behind what waited in their producer
 pub parts_accepted : (topology : Topology) (before : History) (s : StageNo) (spec : StageSpec) (records : List (List ℕ)) → IsSound topology → is_legal topology before ≡ true → AcceptLaws topology before s records
@@ -51,9 +51,10 @@ more : {A : Type 0} (xs ys zs : List A) (n m : ℕ) → zs ≡ xs ++ ys → leng
 more xs ys zs n m e f g = ap length e ∙ (length-append xs ys ∙ (ap (λ k. k + length ys) f ∙ ap (λ k. n + k) g))
 
 -- the tables with the new rows
-pub record Enrolled (core : Core) (before : History) (s : StageNo) (spec : StageSpec) (records : List (List ℕ)) (new : Core) (q : Waits ℕ) : Type 0 where
-  pub queues : new.waiting.items ≡ set core.waiting.items s.0 q
-  pub queue : q.items ≡ units_at core.waiting.items s ++ queued spec (accepted before + 1) records
+pub record Enrolled (core : Core) (before : History) (s : StageNo) (spec : StageSpec) (records : List (List ℕ)) (new : Core) : Type 0 where
+  pub units : (t : StageNo) → units_at new.waiting.items t ≡ (if s.0 == t.0 then units_at core.waiting.items t ++ queued spec (accepted before + 1) records else units_at core.waiting.items t)
+  pub shapes : (t : StageNo) → shape_at new.waiting.items t ≡ shape_at core.waiting.items t
+  pub unit_count : length new.waiting.items ≡ length core.waiting.items
   pub places : new.places.items ≡ core.places.items ++ replicate (length records) (Waiting s)
   pub settled : new.settled.items ≡ core.settled.items ++ replicate (length records) 0
   pub producers : new.producers.items ≡ core.producers.items ++ replicate (length records) s
@@ -64,36 +65,37 @@ pub record Enrolled (core : Core) (before : History) (s : StageNo) (spec : Stage
 
 pub enrolled_fields : (core : Core) (topology : Topology) (before : History) (s : StageNo) (spec : StageSpec) (records : List (List ℕ)) (j : Recorded)
     (queues : Vec (Waits ℕ) Global) (places : Vec Place Global) (settled : Vec ℕ Global) (producers : Vec StageNo Global) (contents : Vec ContentRow Global)
-    (posts : Vec PostRow Global) (totals : Totals) (q : Waits ℕ)
+    (posts : Vec PostRow Global) (totals : Totals)
     → Fields core topology before → IsSound topology → is_legal topology before ≡ true → AcceptLaws topology before s records → s.0 ≤ length topology.stages
     → spec_of topology s ≡ Some spec → spec.role ≡ Producer
-    → Enrolled core before s spec records (record core { journal = j; posts = posts; waiting = queues; places = places; settled = settled; producers = producers; contents = contents; totals = totals }) q
+    → Enrolled core before s spec records (record core { journal = j; posts = posts; waiting = queues; places = places; settled = settled; producers = producers; contents = contents; totals = totals })
     → Fields (record core { journal = j; posts = posts; waiting = queues; places = places; settled = settled; producers = producers; contents = contents; totals = totals }) topology (Accept s records ∷ before)
-enrolled_fields core topology before s spec records j queues places settled producers contents posts totals q x sound legal law within found role e = fields_of says
+enrolled_fields core topology before s spec records j queues places settled producers contents posts totals x sound legal law within found role e = fields_of says
   where
     waits : (t : StageNo) → (((s.0 == t.0) ≡ true) × (s.0 ≡ t.0)) ⊎ (((s.0 == t.0) ≡ false) × (s.0 ≢ t.0)) → units_at queues.items t ≡ waiting_parts topology (Accept s records ∷ before) t
     waits t (inl same) =
         let one : s ≡ t = ap (λ n. record { 0 = n }) same.1 in
-        ap (λ qs. queue_at qs t) e.queues
-        ∙ (queue-set_same core.waiting.items s.0 q t (omega (arith, x.sized.waiting)) (sym same.1)
-        ∙ (e.queue
-        ∙ (ap (λ us. us ++ queued spec (accepted before + 1) records) (x.waiting s)
+        e.units t
+        ∙ (ap (λ b. if b then units_at core.waiting.items t ++ queued spec (accepted before + 1) records else units_at core.waiting.items t) same.0
+        ∙ (ap (λ us. us ++ queued spec (accepted before + 1) records) (x.waiting t)
+        ∙ (ap (λ u. waiting_parts topology before u ++ queued spec (accepted before + 1) records) (sym one)
         ∙ (sym (parts_accepted topology before s spec records sound legal law found role) ∙ ap (waiting_parts topology (Accept s records ∷ before)) one))))
     waits t (inr other) =
-        ap (λ qs. queue_at qs t) e.queues
-        ∙ (queue-set_other core.waiting.items s.0 q t (λ p. other.1 (sym p))
+        e.units t
+        ∙ (ap (λ b. if b then units_at core.waiting.items t ++ queued spec (accepted before + 1) records else units_at core.waiting.items t) other.0
         ∙ (x.waiting t
         ∙ (sym (parts_old topology s records before t sound legal)
         ∙ sym (ap (map (λ n. (part_of topology (Accept s records ∷ before) (spec_of topology t) n, n))) (law.waiting_else t other.0)))))
 
     says : (it : Part) → Says it (record core { journal = j; posts = posts; waiting = queues; places = places; settled = settled; producers = producers; contents = contents; totals = totals }) topology (Accept s records ∷ before)
     says PostsLen = e.post_count ∙ x.sized.posts
-    says WaitingLen = ap length e.queues ∙ (length-set core.waiting.items s.0 q ∙ x.sized.waiting)
+    says WaitingLen = e.unit_count ∙ x.sized.waiting
     says PlacesLen = more core.places.items (replicate (length records) (Waiting s)) places.items (accepted before) (length records) e.places x.sized.places (length-replicate (length records) (Waiting s))
     says SettledLen = more core.settled.items (replicate (length records) 0) settled.items (accepted before) (length records) e.settled x.sized.settled (length-replicate (length records) 0)
     says ProducersLen = more core.producers.items (replicate (length records) s) producers.items (accepted before) (length records) e.producers x.sized.producers (length-replicate (length records) s)
     says ContentsLen = more core.contents.items (contents_up (length before) 0 (length records)) contents.items (accepted before) (length records) e.contents x.sized.contents (contents_count (length before) 0 (length records))
     says PostsAre = λ t slot below low. e.posts (post_at t.0 slot) ∙ post_home core.posts.items s t slot (post_row before t slot) low (x.posts t slot below low)
+    says WaitingSet = λ t of_stage at. e.shapes t ∙ x.set.waiting t of_stage at
     says WaitingAre = λ t. waits t (same_or_other s.0 t.0)
     says InboxesAre = λ t. x.inboxes t ∙ sym (law.inbox t)
     says ChunksAre = λ t. x.chunks t ∙ sym (law.running t)

@@ -1,12 +1,11 @@
 -- The room that a fetch makes, and what an accept takes of it.
-use Rattle.std.proofs.Common.{◌≡◌, ◌≢◌, ℕ, ◌+◌, ◌<◌, ◌≤◌, List, ◌∷◌, length, set, true, false, refl, ap, sym, ◌∙◌, arith, Some, inl, inr}
-use Rattle.std.specs.Prelude.{◌==◌, ◌⊎◌, ◌&&◌, nat_lt, slice_get, OnOk}
+use Rattle.std.proofs.Common.{◌≡◌, ◌≢◌, ℕ, ◌+◌, ◌≤◌, List, ◌∷◌, length, set, true, false, refl, ap, sym, ◌∙◌, arith, Some, inl, inr}
+use Rattle.std.specs.Prelude.{◌==◌, ◌⊎◌, ◌&&◌, nat_lt, OnOk}
 use Rattle.std.specs.declared.alloc.Global.{Global}
 use Rattle.std.proofs.lemmas.Bool.{eqb-true}
 use Rattle.std.specs.declared.result.Result.{Result}
 use Rattle.std.specs.declared.result.Result.TheVariants.{Ok, Err}
-use Rattle.std.specs.Vec.{with_item}
-use Rattle.std.proofs.lemmas.List.{length-set}
+use Rattle.std.specs.declared.vec.Vec.{Vec}
 use Rattle.pipe_types.specs.declared.numbers.StageNo.{StageNo}
 use Rattle.pipe_types.specs.declared.topology.Topology.{Topology}
 use Rattle.pipe_types.specs.declared.topology.StageSpec.{StageSpec}
@@ -31,13 +30,13 @@ use Rattle.core_tables.proofs.Tables.{same_or_other, get-set_other}
 use Rattle.core_laws.proofs.Due.{answer_due}
 use Rattle.core_laws.proofs.TakenBatches.{no_fetch}
 use Rattle.core_laws.specs.Due.{due_steps, booked, taken_size}
-use Rattle.core_waits.specs.Waits.{free_at, free_in, free}
+use Rattle.core_waits.specs.Waits.{units_at, shape_at, free_at, free_in}
 use Rattle.stage_buffer.specs.Waiting.{Waiting}
 use Rattle.core_state.specs.declared.state.Core.{Core}
 use Rattle.core_state.specs.Room.{HaveRows}
 use Rattle.core_state.specs.Stands.{Holds, Stands}
 use Rattle.core_state.proofs.Rooms.{ends_kept, fewer_rows, rows_kept}
-use Rattle.core_state.proofs.Roomy.{roomy, same_queue, more_queue}
+use Rattle.core_state.proofs.Roomy.{roomy}
 
 -- what holds in any case holds on Ok
 pub holds_on_ok : {T E : Type 0} (r : Result T E) (P : Type 0) → P → OnOk r P
@@ -85,24 +84,25 @@ accept_rows core s records x allowed =
     let more : after ≡ accepted core.journal.steps + length records + fetches_out core.topology (step ∷ core.journal.steps) = refl in
     fewer_rows after (accepted core.journal.steps + length records) core.places core.settled core.producers core.contents (rows_kept core step x allowed (λ t n e. cc)) (omega (arith, more))
 
--- where the queue and the journal have more room, the core stands as it did
-pub queue_stands : (core : Core) (s : StageNo) (old q : Waiting ℕ) (j : Recorded) → Stands core → s.0 < length core.waiting.items → slice_get core.waiting.items s.0 ≡ Some old
-    → q.items ≡ old.items → free old ≤ free q → j.steps ≡ core.journal.steps → core.journal.spare ≤ j.spare → j.acked ≡ core.journal.acked
-    → Stands (record core { journal = j; waiting = with_item core.waiting s.0 q })
-queue_stands core s old q j x within was same more steps spare acked =
-    roomy core core.places core.settled core.producers core.contents (with_item core.waiting s.0 q) j x
+-- where the buffers and the journal have more room, the core stands as it did
+pub queue_stands : (core : Core) (w : Vec (Waiting ℕ) Global) (j : Recorded) → Stands core → ((t : StageNo) → units_at w.items t ≡ units_at core.waiting.items t)
+    → ((t : StageNo) → shape_at w.items t ≡ shape_at core.waiting.items t) → length w.items ≡ length core.waiting.items → ((t : StageNo) → free_at core.waiting.items t ≤ free_at w.items t)
+    → j.steps ≡ core.journal.steps → core.journal.spare ≤ j.spare → j.acked ≡ core.journal.acked → Stands (record core { journal = j; waiting = w })
+queue_stands core w j x same shapes len rooms steps spare acked =
+    roomy core core.places core.settled core.producers core.contents w j x
     (record {
       places = refl;
       settled = refl;
       producers = refl;
       contents = refl;
-      queues = same_queue core.waiting.items s old q within was same;
-      queue_count = length-set core.waiting.items s.0 q;
+      queues = same;
+      shapes = shapes;
+      queue_count = len;
       places_room = omega arith;
       settled_room = omega arith;
       producers_room = omega arith;
       contents_room = omega arith;
-      queues_room = more_queue core.waiting.items s old q within was more;
+      queues_room = rooms;
     })
     steps spare (ap (λ (a : AckLog). a.rows) acked) (let room = ap (λ (a : AckLog). a.room) acked in omega (arith, room))
 

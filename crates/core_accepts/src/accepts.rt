@@ -1,15 +1,17 @@
 //! Accepts: records become messages that wait in their producer.
 
-ghost use Rattle.std.specs.{Prelude.{◌≡◌, ◌∷◌, ◌++◌, ◌+◌, ◌<◌, ◌≤◌, ◌^◌, length, OnOk, IsTrue}, VecDeque.{deque_len, deque_capacity}};
+ghost use Rattle.std.specs.Prelude.{◌≡◌, ◌∷◌, ◌++◌, ◌+◌, ◌<◌, ◌≤◌, ◌^◌, length, OnOk, IsTrue};
 ghost use Rattle.pipe_model.specs.{History.{bytes_in}, Legal.{allows}};
 ghost use Rattle.core_laws.specs.Enrolled.{record_part, queued};
-ghost use Rattle.core_waits.specs.Waits.{free_at};
+ghost use Rattle.stage_buffer.specs.Waiting.{KeepsShape};
+ghost use Rattle.core_waits.specs.Waits.{free, free_at, shape_of, shape_for};
 ghost use Rattle.core_state.specs.Stands.{Holds, Stands};
 ghost use Rattle.core_accepts.specs.Records.{HasParts};
 
 use core_state::{Core, MOST_DUE};
 use core_tables::new_rows::{content_new, mark_new, place_new, produce_new};
 use core_tables::posts::come_home;
+use core_waits::{make_room as make_queue_room, put};
 use dispatch_partition::partition_of;
 use pipe_types::bytes::{Bytes, BytesList};
 use pipe_types::fields::field;
@@ -31,8 +33,7 @@ pub fn make_room(core: &mut Core, stage: StageNo, count: u32) -> Result<(), Allo
     ensures inboxes { core.new.inboxes ≡ core.old.inboxes }
     ensures stands { Stands core.new }
 {
-    let queue = &mut core.waiting[stage.0 as usize];
-    queue.reserve(count as usize)?;
+    make_queue_room(&mut core.waiting, stage, count as usize)?;
     core.journal.reserve(MOST_DUE + 2)
 }
 
@@ -72,13 +73,15 @@ pub fn enroll(core: &mut Core, stage: StageNo, records: BytesList)
 fn queue_new(queue: &mut Buffer<u32>, spec: &StageSpec, accepted: u32, records: &[Bytes])
     requires parts { HasParts spec.now }
     requires numbers { accepted + length records.now < 2 ^ 32 }
-    requires room { deque_len queue.old + length records.now ≤ deque_capacity queue.old }
-    ensures { queue.new.items ≡ queue.old.items ++ queued spec.now (accepted + 1) records.now }
+    requires shape { shape_of queue.old ≡ shape_for spec.now }
+    requires room { length records.now ≤ free queue.old }
+    ensures units { queue.new.units ≡ queue.old.units ++ queued spec.now (accepted + 1) records.now }
+    ensures shape { KeepsShape queue.old queue.new }
 {
     let mut no = accepted;
     for record in records {
         no += 1;
-        queue.push_back_reserved((part_of(spec, record), no));
+        put(queue, part_of(spec, record), no);
     }
 }
 

@@ -95,12 +95,12 @@ pub fn bound(core: &Core, stage: StageNo) -> u32
 }
 
 /// How many of so many records the producer may bring.
-fn within_room(spec: &StageSpec, records: u32, room: u64, waiting: usize) -> u32
+fn within_room(spec: &StageSpec, records: u32, room: u64, waiting: u32) -> u32
     ensures { result ≡ pulled spec.now records room waiting }
 {
     if spec.push {
         return records;
     }
-    let asked = room.saturating_sub(waiting as u64);
+    let asked = room.saturating_sub(u64::from(waiting));
     u64::from(records).min(asked) as u32
 }

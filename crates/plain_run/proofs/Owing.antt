@@ -28,6 +28,7 @@ use Rattle.core_state.specs.Stands.{Fields, Holds, KeepsLog}
 use Rattle.core_state.specs.Room.{Roomy}
 use Rattle.core_state.proofs.Steps.{same_fields}
 use Rattle.core_state.proofs.Rooms.{still_roomy}
+use Rattle.core_state.proofs.Parts.{Part, InboxesAre, InboxesLen, Says, unchanged, fields_of}
 use Rattle.core_accepts.proofs.Owed.{live_then, messages_then}
 use Rattle.core_batches.specs.Writes.{IsAnswered}
 use Rattle.plain_run.specs.Owes.{OwesDispatch, is_crash}
@@ -48,46 +49,12 @@ still_holds core j x same spare acked =
 -- inboxes with more room hold what they held
 roomy_fields : (core : Core) (topology : Topology) (before : History) (inboxes : Vec (VecDeque (SubNo × ℕ) Global) Global) → ((c : StageNo) → queue_at inboxes.items c ≡ queue_at core.inboxes.items c) → length inboxes.items ≡ length core.inboxes.items
     → Fields core topology before → Fields (record core { inboxes = inboxes }) topology before
-roomy_fields core topology before inboxes same long x =
-    record {
-      sized =
-          record {
-            few = x.sized.few;
-            stages = x.sized.stages;
-            posts = x.sized.posts;
-            came = x.sized.came;
-            waiting = x.sized.waiting;
-            inboxes = long ∙ x.sized.inboxes;
-            chunks = x.sized.chunks;
-            batchers = x.sized.batchers;
-            children = x.sized.children;
-            places = x.sized.places;
-            settled = x.sized.settled;
-            producers = x.sized.producers;
-            contents = x.sized.contents;
-            batches = x.sized.batches;
-            ends = x.sized.ends;
-          };
-      set = record { batchers = x.set.batchers; children = x.set.children; restarts = x.set.restarts };
-      stages = x.stages;
-      posts = x.posts;
-      came = x.came;
-      subs = x.subs;
-      waiting = x.waiting;
-      inboxes = λ c. same c ∙ x.inboxes c;
-      chunks = x.chunks;
-      opens = x.opens;
-      children = x.children;
-      places = x.places;
-      settled = x.settled;
-      producers = x.producers;
-      contents = x.contents;
-      batches = x.batches;
-      sent_on = x.sent_on;
-      legs = x.legs;
-      restarts = x.restarts;
-      totals = x.totals;
-    }
+roomy_fields core topology before inboxes same long x = fields_of says
+  where
+    says : (it : Part) → Says it (record core { inboxes = inboxes }) topology before
+    says InboxesLen = long ∙ x.sized.inboxes
+    says InboxesAre = λ c. same c ∙ x.inboxes c
+    says it = unchanged x it
 
 pub roomy_holds : (core : Core) (inboxes : Vec (VecDeque (SubNo × ℕ) Global) Global) → ((c : StageNo) → queue_at inboxes.items c ≡ queue_at core.inboxes.items c) → length inboxes.items ≡ length core.inboxes.items
     → Holds core → Holds (record core { inboxes = inboxes })

@@ -35,7 +35,8 @@ use Rattle.core_state.specs.declared.state.Core.{Core}
 use Rattle.core_state.specs.Stands.{Fields, Holds}
 use Rattle.core_laws.specs.Columns.{is_broadcast}
 use Rattle.core_sends.proofs.Front.{none_lone}
-use Rattle.core_tables.specs.Tables.{list_at, queue_at}
+use Rattle.core_tables.specs.Tables.{list_at}
+use Rattle.core_waits.specs.Waits.{units_at}
 use Rattle.plain_run.specs.declared.works.Works.{Works}
 use Rattle.plain_run.specs.Works.{WorksStand, numbers_at}
 use Rattle.plain_run.specs.Acked.{acked_by, touched_in}
@@ -177,7 +178,7 @@ touched_within core works (ChildEnd s slot reply) n x w legal h =
 touched_within core works (Dispatch s) n x w legal h = by (is_broadcast (kind_in (spec_of core.topology s))) refl
   where
     by : (b : Bool) → is_broadcast (kind_in (spec_of core.topology s)) ≡ b
-        → among (if b then flat_map (numbers_at core.batches.items) (map (λ (unit : ℕ × ℕ). unit.1) (queue_at core.waiting.items s)) else []) n ≡ true
+        → among (if b then flat_map (numbers_at core.batches.items) (map (λ (unit : ℕ × ℕ). unit.1) (units_at core.waiting.items s)) else []) n ≡ true
     by true e =
         ap (λ (us : List (ℕ × ℕ)). among (flat_map (numbers_at core.batches.items) (map (λ (unit : ℕ × ℕ). unit.1) us)) n) (x.fields.waiting s)
         ∙ (ap (λ bs. among (flat_map (numbers_at core.batches.items) bs) n) (queue_numbers core.topology core.journal.steps s)

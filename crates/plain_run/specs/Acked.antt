@@ -10,7 +10,8 @@ use Rattle.pipe_model.specs.Flow.{is_number, kind_in}
 use Rattle.pipe_model.specs.Acknowledgements.{is_acked}
 use Rattle.core_laws.specs.Columns.{is_broadcast}
 use Rattle.core_tables.specs.Rows.{post_at}
-use Rattle.core_tables.specs.Tables.{list_at, queue_at}
+use Rattle.core_tables.specs.Tables.{list_at}
+use Rattle.core_waits.specs.Waits.{units_at}
 use Rattle.core_state.specs.declared.state.Core.{Core}
 use Rattle.plain_run.specs.declared.works.Works.{Works}
 use Rattle.plain_run.specs.Works.{held_in, numbers_at}
@@ -24,7 +25,7 @@ acked_by places marks mark (suc i) = is_number (slice_get marks i) mark && is_ac
 abbrev pub waiting_in : Core → StageNo → List ℕ
 waiting_in core s =
     if is_broadcast (kind_in (spec_of core.topology s))
-    then flat_map (numbers_at core.batches.items) (map (λ unit. unit.1) (queue_at core.waiting.items s))
+    then flat_map (numbers_at core.batches.items) (map (λ unit. unit.1) (units_at core.waiting.items s))
     else []
 
 -- among these are all that the step acknowledges

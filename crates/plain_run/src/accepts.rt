@@ -101,14 +101,14 @@ pub(crate) fn is_due(core: &Core, stage: StageNo, sent: &[Sent]) -> bool
 }
 
 /// Whether something is sent, or more units wait than the size.
-fn is_some_due(sent: &[Sent], size: Option<u32>, units: usize) -> bool
+fn is_some_due(sent: &[Sent], size: Option<u32>, units: u32) -> bool
     ensures { result ≡ (not (length sent.now == 0) || is_over size units) }
 {
     if !sent.is_empty() {
         return true;
     }
     match size {
-        Some(size) => (size as usize) < units,
+        Some(size) => size < units,
         None => false,
     }
 }

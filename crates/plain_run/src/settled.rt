@@ -8,7 +8,8 @@ ghost use Rattle.pipe_model.specs.Acknowledgements.{is_acked as is_acked_as};
 ghost use Rattle.pipe_model.specs.Flow.{among, is_number, kind_in};
 ghost use Rattle.pipe_model.specs.Legal.{allows};
 ghost use Rattle.core_laws.specs.Columns.{is_broadcast};
-ghost use Rattle.core_tables.specs.Tables.{list_at, queue_at};
+ghost use Rattle.core_tables.specs.Tables.{list_at};
+ghost use Rattle.core_waits.specs.Waits.{units_at};
 ghost use Rattle.core_state.specs.Stands.{Holds};
 ghost use Rattle.settle_laws.specs.Settled.{outcome_row, row_of, settled_last};
 ghost use Rattle.plain_run.specs.Acked.{acked_by, touched_in, waiting_in};
@@ -27,8 +28,8 @@ use pipe_types::message::{Outcome, Place};
 use pipe_types::numbers::{MsgNo, StageNo};
 use pipe_types::step::Step;
 use pipe_types::topology::{Dispatch, Topology};
+use stage_buffer::Buffer;
 use std::alloc::{AllocError, Global};
-use std::collections::VecDeque;
 
 /// Appends the step where it is legal, and answers what it may owe; none where it is not legal. Notes what the step acknowledged.
 pub(crate) fn judge_and_note(
@@ -129,21 +130,15 @@ fn does_broadcast(topology: &Topology, stage: StageNo) -> bool
 /// The units that wait in the stage.
 fn units_in(
     alloc: Global,
-    waiting: &[VecDeque<(u32, u32)>],
+    waiting: &[Buffer<u32>],
     stage: StageNo,
 ) -> Result<Vec<u32>, AllocError>
-    ensures { IfOk result (λ units. units.items ≡ map (λ unit. unit.1) (queue_at waiting.now stage)) }
+    ensures { IfOk result (λ units. units.items ≡ map (λ unit. unit.1) (units_at waiting.now stage)) }
 {
     match waiting.get(stage.0 as usize) {
-        Some(queue) => numbers_in(alloc, queue),
+        Some(queue) => queue.numbers(),
         None => Ok(Vec::new(alloc)),
     }
-}
-
-fn numbers_in(alloc: Global, queue: &VecDeque<(u32, u32)>) -> Result<Vec<u32>, AllocError>
-    ensures { IfOk result (λ units. units.items ≡ map (λ unit. unit.1) queue.now.items) }
-{
-    queue.iter().map(|unit| unit.1).collect(alloc)
 }
 
 /// Those of these messages that the step with the mark acknowledged, ascending.

@@ -1,6 +1,7 @@
-use Rattle.std.proofs.Common.{◌≡◌, ℕ, ◌+◌, ◌*◌, ◌≤◌, ◌++◌, List, length, replicate, refl, ap, sym, ◌∙◌, Some, arith}
+use Rattle.std.proofs.Common.{◌≡◌, ℕ, ◌+◌, ◌*◌, ◌<◌, ◌≤◌, ◌++◌, List, length, replicate, refl, ap, sym, ◌∙◌, Some, arith}
 use Rattle.std.specs.Prelude.{slice_get}
 use Rattle.std.specs.Vec.{with_item}
+use Rattle.std.proofs.lemmas.List.{length-set}
 use Rattle.std.proofs.lemmas.Option.{slice_get_read}
 use Rattle.pipe_types.specs.declared.topology.StageSpec.{StageSpec}
 use Rattle.pipe_types.specs.declared.message.Place.TheVariants.{Waiting}
@@ -8,12 +9,12 @@ use Rattle.pipe_types.specs.declared.step.Step.TheVariants.{Accept}
 use Rattle.pipe_types.specs.Stages.{spec_of}
 use Rattle.pipe_model.specs.History.{History, accepted, accepted_bytes, bytes_in}
 use Rattle.core_tables.specs.declared.rows.Totals.{Totals}
-use Rattle.core_tables.specs.Tables.{items_in, contents_up}
+use Rattle.core_tables.specs.Tables.{contents_up}
 use Rattle.core_laws.specs.Enrolled.{queued}
-use Rattle.core_waits.specs.Waits.{units_at}
+use Rattle.core_waits.proofs.Columns.{units_changed, shapes_same}
 use Rattle.core_state.specs.declared.state.Core.{Core}
 use Rattle.core_state.proofs.Steps.{holds_after, log_kept}
-use Rattle.core_accepts.proofs.Bringing.{bringing, there, queue_room}
+use Rattle.core_accepts.proofs.Bringing.{bringing, there, shape_here, queue_room}
 use Rattle.core_state.proofs.Rooms.{room_after}
 use Rattle.core_accepts.proofs.Making.{accept_rest, accept_step, accept_rows, accept_queues}
 use Rattle.core_accepts.proofs.Enrolling.{Enrolled, enrolled_fields}
@@ -61,6 +62,18 @@ queue_new-requires-clause-numbers c =
     let many : core.totals.accepted ≡ accepted core.journal.steps = ap (λ (y : Totals). y.accepted) x.fields.totals in
     omega (arith, ap (λ (rs : List (List ℕ)). length rs) c.as_slice-3.ensures, many, b.law.fits)
 
+pub queue_new-requires-clause-shape : goal.queue_new-requires-clause-shape
+queue_new-requires-clause-shape c =
+    let core = c.args.core.now in
+    let s = c.args.stage in
+    let x = c.requires.holds in
+    let b = bringing core.topology core.journal.steps s c.args.records x.sound x.legal c.requires.legal in
+    let found = sym c.in-Some.ensures in
+    let within = b.within c.in-Some.spec.now found in
+    let q = c.index_mut-queue.result.now in
+    let here : slice_get core.waiting.items s.0 ≡ Some q = slice_get_read core.waiting.items (length core.waiting.items) s.0 q refl (omega (arith, within, x.fields.sized.waiting)) c.index_mut-queue.ensures.value in
+    shape_here core s c.in-Some.spec.now q x found here
+
 pub queue_new-requires-clause-room : goal.queue_new-requires-clause-room
 queue_new-requires-clause-room c =
     let core = c.args.core.now in
@@ -70,7 +83,7 @@ queue_new-requires-clause-room c =
     let within = b.within c.in-Some.spec.now (sym c.in-Some.ensures) in
     let q = c.index_mut-queue.result.now in
     let here : slice_get core.waiting.items s.0 ≡ Some q = slice_get_read core.waiting.items (length core.waiting.items) s.0 q refl (omega (arith, within, x.fields.sized.waiting)) c.index_mut-queue.ensures.value in
-    omega (arith, ap (λ (rs : List (List ℕ)). length rs) c.as_slice-3.ensures, queue_room core.waiting.items s q here, c.requires.room, q.small, q.ok)
+    omega (arith, ap (λ (rs : List (List ℕ)). length rs) c.as_slice-3.ensures, queue_room core.waiting.items s q here, c.requires.room)
 
 pub come_home-requires : goal.come_home-requires
 come_home-requires c =
@@ -111,7 +124,8 @@ returns-clause-holds c =
     let within = b.within spec found in
     let q = c.queue_new.new.queue in
     let old = c.index_mut-queue.result.now in
-    let here : slice_get core.waiting.items s.0 ≡ Some old = slice_get_read core.waiting.items (length core.waiting.items) s.0 old refl (omega (arith, within, x.fields.sized.waiting)) c.index_mut-queue.ensures.value in
+    let low : s.0 < length core.waiting.items = omega (arith, within, x.fields.sized.waiting) in
+    let here : slice_get core.waiting.items s.0 ≡ Some old = slice_get_read core.waiting.items (length core.waiting.items) s.0 old refl low c.index_mut-queue.ensures.value in
     let many : core.totals.accepted ≡ accepted before = ap (λ (y : Totals). y.accepted) x.fields.totals in
     let count : length c.as_slice.result.now ≡ length records = ap (λ (rs : List (List ℕ)). length rs) c.as_slice.ensures in
     let bytes : c.bytes_of-bytes.result ≡ bytes_in records = c.bytes_of-bytes.ensures ∙ ap bytes_in c.as_slice-2.ensures in
@@ -126,14 +140,14 @@ returns-clause-holds c =
       contents = c.content_new.new.contents;
       totals = record core.totals { accepted = core.totals.accepted + length c.as_slice.result.now; bytes = core.totals.bytes + c.bytes_of-bytes.result; quiet = 0 };
     } in
-    let enrolled : Enrolled core before s spec records core-new q =
+    let new : q.units ≡ old.units ++ queued spec (accepted before + 1) records =
+    c.queue_new.ensures.units
+    ∙ (ap (λ n. old.units ++ queued spec (n + 1) c.as_slice-3.result.now) many ∙ ap (λ (rs : List (List ℕ)). old.units ++ queued spec (accepted before + 1) rs) c.as_slice-3.ensures) in
+    let enrolled : Enrolled core before s spec records core-new =
     record {
-      queues = refl;
-      queue =
-          c.queue_new.ensures
-          ∙ (ap (λ o. items_in o ++ queued spec (core.totals.accepted + 1) c.as_slice-3.result.now) (sym here)
-          ∙ (ap (λ n. units_at core.waiting.items s ++ queued spec (n + 1) c.as_slice-3.result.now) many
-          ∙ ap (λ (rs : List (List ℕ)). units_at core.waiting.items s ++ queued spec (accepted before + 1) rs) c.as_slice-3.ensures));
+      units = units_changed (λ us. us ++ queued spec (accepted before + 1) records) core.waiting.items s old q low here new;
+      shapes = shapes_same core.waiting.items s old q low here c.queue_new.ensures.shape;
+      unit_count = length-set core.waiting.items s.0 q;
       places = c.place_new.ensures.items ∙ ap (λ n. core.places.items ++ replicate n (Waiting s)) count;
       settled = c.mark_new.ensures.items ∙ ap (λ n. core.settled.items ++ replicate n 0) count;
       producers = c.produce_new.ensures.items ∙ ap (λ n. core.producers.items ++ replicate n s) count;
@@ -148,7 +162,7 @@ returns-clause-holds c =
     } in
     let fields =
     enrolled_fields core core.topology before s spec records c.push_spare.new.self (with_item core.waiting s.0 q) c.place_new.new.places c.mark_new.new.settled c.produce_new.new.producers c.content_new.new.contents
-    c.come_home.new.posts core-new.totals q x.fields x.sound x.legal b.law within found (b.role spec found) enrolled in
+    c.come_home.new.posts core-new.totals x.fields x.sound x.legal b.law within found (b.role spec found) enrolled in
     holds_after core core-new (Accept s records) x refl c.push_spare.ensures.written c.requires.legal fields
     (room_after core core-new (Accept s records) x c.requires.legal refl (accept_rest core s records c.push_spare.new.self.spare x c.requires.legal c.push_spare.ensures.spare)
     c.place_new.ensures.capacity c.mark_new.ensures.capacity c.produce_new.ensures.capacity c.content_new.ensures.capacity

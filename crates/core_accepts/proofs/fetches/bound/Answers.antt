@@ -5,7 +5,7 @@ use Rattle.pipe_types.specs.declared.topology.StageSpec.{StageSpec}
 use Rattle.pipe_types.specs.Stages.{spec_of}
 use Rattle.pipe_model.specs.Flow.{room, waiting}
 use Rattle.stage_laws.proofs.Numbering.{numbered_topology}
-use Rattle.core_tables.specs.Tables.{items_in}
+use Rattle.core_waits.specs.Waits.{units_in}
 use Rattle.core_accepts.specs.Rooms.{open_between, pulled}
 use Rattle.core_accepts.proofs.Bounding.{bound_known, bound_unknown, room_seen, waiting_seen, left_seen}
 use Rattle.core_accepts.proofs.fetches.bound.Goals as goal
@@ -38,7 +38,7 @@ returns c =
     let here : spec.no.0 < length core.waiting.items = omega (arith, ap (λ s. s.0) no, within.1, x.fields.sized.waiting) in
     let queue : slice_get core.waiting.items spec.no.0 ≡ Some c.index.result.now = slice_get_read core.waiting.items (length core.waiting.items) spec.no.0 c.index.result.now refl here c.index.ensures in
     let count : c.len-waiting.result ≡ length (waiting core.topology core.journal.steps spec.no) =
-    c.len-waiting.ensures ∙ (c.index.result.now.ok.0 ∙ (ap (λ o. length (items_in o)) (sym queue) ∙ waiting_seen core spec.no x)) in
+    c.len-waiting.ensures ∙ (ap (λ o. length (units_in o)) (sym queue) ∙ waiting_seen core spec.no x) in
     let open_room : c.room_on-room.result ≡ room core.topology core.journal.steps spec.no =
     c.room_on-room.ensures ∙ (ap (λ (stages : List StageSpec). sum_by (open_between core.subs spec) stages) c.as_slice.ensures ∙ room_seen core spec x (ap (spec_of core.topology) no ∙ found)) in
     c.within_room.ensures

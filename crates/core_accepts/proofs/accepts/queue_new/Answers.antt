@@ -1,0 +1,3 @@
+use Rattle.std.proofs.Common.{◌≡◌, ◌∙◌, arith}
+use Rattle.core_accepts.proofs.Bringing.{record_low}
+use Rattle.core_accepts.proofs.accepts.queue_new.Goals as goal
