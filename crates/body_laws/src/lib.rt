@@ -161,7 +161,7 @@ pub fn bodies_may_come_back()
 {}
 
 /// Each message is for one of the batchers of the topology, with a payload and a key that are not too long.
-#[tactic(auto, using(crate::proofs::Contents::content_fits))]
+#[tactic(auto, using(wait_laws::proofs::Contents::content_fits))]
 pub fn messages_fit_their_stages()
     ensures { (topology : Topology) (before : History) (n : ℕ) (m : Message) →
         IsSound topology → IsTrue (is_legal topology before) → content before n ≡ Some m →
