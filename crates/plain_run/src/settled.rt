@@ -128,15 +128,7 @@ fn does_broadcast(topology: &Topology, stage: StageNo) -> bool
 }
 
 /// The units that wait in the stage.
-<<<<<<< HEAD
 fn units_in(alloc: Global, waiting: &[Buffer<u32>], stage: StageNo) -> Result<Vec<u32>, AllocError>
-=======
-fn units_in(
-    alloc: Global,
-    waiting: &[Buffer<u32>],
-    stage: StageNo,
-) -> Result<Vec<u32>, AllocError>
->>>>>>> r_b2n
     ensures { IfOk result (λ units. units.items ≡ map (λ unit. unit.1) (units_at waiting.now stage)) }
 {
     match waiting.get(stage.0 as usize) {
