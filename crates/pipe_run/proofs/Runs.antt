@@ -109,6 +109,7 @@ went : (feeds : Feeds) (r : Result RunEnd AllocError) (opened p : PipeState) (to
     → GivesOff (named_control topology.control p.control ++ sources_of feeds topology.stages p.home) (sinks_of feeds topology.stages p.home) old new → IsBackFirst topology.control p.control old new → AreCalm feeds topology.stages p.home → KeepsCallbacks p.home final
     → WentOn feeds (is_ok r) opened.topology p.steps opened.home final opened.control old new opened.clock p.clock
 went feeds r opened p topology final old new h same back first calm kept = record {
+  legal = h.legal;
   follows = h.follows;
   ended = come opened.topology p.steps r h.ended;
   idle = when_whole r (IsIdleWithin opened.topology p.steps) h.idle;
@@ -134,6 +135,7 @@ went_in_part : (feeds : Feeds) (r : Result RunEnd AllocError) (opened p : PipeSt
 went_in_part feeds r opened p topology final old new h same given first kept =
     let part = subst (λ (t : Topology). IsGivenInPart feeds t p.control p.home old new) (same ∙ h.topology) given in
     record {
+      legal = h.legal;
       follows = h.follows;
       ended = λ w. not_whole w;
       idle = λ w. not_whole w;
@@ -178,6 +180,7 @@ time_partly false before opened clock k = k
 in_part : (feeds : Feeds) (whole : Bool) (topology : Topology) (before : History) (opened final : ℕ → Option BodySeen) (fresh : Option LineSeen) (old new : EdgesSeen) (clock clock' : ClockSeen)
     → WentOn feeds whole topology before opened final fresh old new clock clock' → WentOn feeds false topology before opened final fresh old new clock clock'
 in_part feeds whole topology before opened final fresh old new clock clock' w = record {
+  legal = w.legal;
   follows = w.follows;
   ended = λ t. not_whole t;
   idle = λ t. not_whole t;

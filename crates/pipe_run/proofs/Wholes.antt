@@ -10,7 +10,6 @@ use Rattle.pipe_edges.specs.declared.edges.EdgeKind.{EdgeKind}
 use Rattle.pipe_edges.specs.declared.edges.EdgeKind.TheVariants.{Sink}
 use Rattle.stage_bodies.specs.Seen.{SinkSeen, LineSeen, BoxSeen, BodySeen}
 use Rattle.run_pipe.specs.Clocks.{ClockSeen}
-use Rattle.core_state.specs.Stands.{Stands}
 use Rattle.rate_laws.specs.Rates.{KeepsRate}
 use Rattle.edge_names.specs.Supplies.{Feed, Feeds, FeedsProducers, at_paces}
 use Rattle.edge_names.specs.Seen.{EdgesSeen}
@@ -38,14 +37,14 @@ use Rattle.pipe_run.proofs.Rates.{rate_kept}
 use Rattle.pipe_run.proofs.Stocks.{IsTakenBack, boxes_left, boxes_same}
 
 -- everything was opened, the rounds went on, and all was given back
-opened_outside : (calls : List (EdgeKind × List ℕ)) (feeds : Feeds) (whole : Bool) (topology : Topology) (before : History) (table opened final : ℕ → Option BodySeen) (fresh : Option LineSeen) (old mid new : EdgesSeen) (clock clock' : ClockSeen) → IsSound topology → AreUngated feeds → is_legal topology before ≡ true → AreHandedOut topology table
+opened_outside : (calls : List (EdgeKind × List ℕ)) (feeds : Feeds) (whole : Bool) (topology : Topology) (before : History) (table opened final : ℕ → Option BodySeen) (fresh : Option LineSeen) (old mid new : EdgesSeen) (clock clock' : ClockSeen) → IsSound topology → AreUngated feeds → AreHandedOut topology table
     → AreOpened feeds topology (length topology.stages) old table opened → HasSource old (control_call topology.control) None fresh → Asks calls old mid → WentOn feeds whole topology before opened final fresh mid new clock clock'
     → IsOutside feeds whole topology before old new
-opened_outside calls feeds whole topology before table opened final fresh old mid new clock clock' sound ungated legal handed opens lines asks went =
+opened_outside calls feeds whole topology before table opened final fresh old mid new clock clock' sound ungated handed opens lines asks went =
     let from : IsRunFrom feeds whole topology old before table opened went.bodies = record {
       sound = sound;
       ungated = ungated;
-      legal = legal;
+      legal = went.legal;
       home = homes feeds topology table handed;
       opens = opens;
       keeps = went.keeps;
@@ -55,15 +54,16 @@ opened_outside calls feeds whole topology before table opened final fresh old mi
     let obeyed = has_control topology old before topology.control fresh went.control lines went.obeyed in
     outside feeds whole topology before calls old mid new went.control went.bodies went.parts went.more went.all obeyed (used feeds whole topology old before table opened went.bodies from) asks went.back went.first
 
-run_alone : (feeds : Feeds) (whole : Bool) (topology : Topology) (before : History) (table opened final : ℕ → Option BodySeen) (fresh : Option LineSeen) (text : List ℕ) (failed : Bool) (old mid new : EdgesSeen) (clock clock' : ClockSeen) → IsSound topology → AreUngated feeds → is_legal topology before ≡ true → AreHandedOut topology table
+run_alone : (feeds : Feeds) (whole : Bool) (topology : Topology) (before : History) (table opened final : ℕ → Option BodySeen) (fresh : Option LineSeen) (text : List ℕ) (failed : Bool) (old mid new : EdgesSeen) (clock clock' : ClockSeen) → IsSound topology → AreUngated feeds → AreHandedOut topology table
     → AreOpened feeds topology (length topology.stages) old table opened → HasSource old (control_call topology.control) None fresh → Asks (run_calls feeds topology) old mid → WentOn feeds whole topology before opened final fresh mid new clock clock'
     → failed ≡ false → IsRunOf feeds whole topology before None text failed old new clock clock'
-run_alone feeds whole topology before table opened final fresh text failed old mid new clock clock' sound ungated legal handed opens lines asks went none = record {
+run_alone feeds whole topology before table opened final fresh text failed old mid new clock clock' sound ungated handed opens lines asks went none = record {
+  legal = went.legal;
   follows = went.follows;
   control = λ unnamed. no_control topology old before topology.control fresh went.control unnamed lines went.obeyed;
   ended = went.ended;
   idle = went.idle;
-  outside = opened_outside (run_calls feeds topology) feeds whole topology before table opened final fresh old mid new clock clock' sound ungated legal handed opens lines asks went;
+  outside = opened_outside (run_calls feeds topology) feeds whole topology before table opened final fresh old mid new clock clock' sound ungated handed opens lines asks went;
   none_failed = λ unnamed. none;
   time = went.time;
   asks = asked_all (run_calls feeds topology) (first_sources feeds went.parts went.more topology went.control went.bodies) (first_sinks feeds went.parts topology went.bodies) old mid new asks went.back;
@@ -91,22 +91,23 @@ live_from calls a b name text whole failed middle new asks l = record {
   no_fault = l.no_fault;
 }
 
-run_with_live : (feeds : Feeds) (whole : Bool) (topology : Topology) (before : History) (table opened final : ℕ → Option BodySeen) (fresh : Option LineSeen) (name text : List ℕ) (failed : Bool) (old mid new : EdgesSeen) (clock clock' : ClockSeen) → IsSound topology → AreUngated feeds → is_legal topology before ≡ true → AreHandedOut topology table
+run_with_live : (feeds : Feeds) (whole : Bool) (topology : Topology) (before : History) (table opened final : ℕ → Option BodySeen) (fresh : Option LineSeen) (name text : List ℕ) (failed : Bool) (old mid new : EdgesSeen) (clock clock' : ClockSeen) → IsSound topology → AreUngated feeds → AreHandedOut topology table
     → AreOpened feeds topology (length topology.stages) old table opened → HasSource old (control_call topology.control) None fresh → Asks (run_calls feeds topology) old mid
     → WentLive name feeds whole topology before text failed opened final fresh mid new clock clock' → IsRunOf feeds whole topology before (Some name) text failed old new clock clock'
-run_with_live feeds whole topology before table opened final fresh name text failed old mid new clock clock' sound ungated legal handed opens lines asks live =
+run_with_live feeds whole topology before table opened final fresh name text failed old mid new clock clock' sound ungated handed opens lines asks live =
     let went = live.went in
     let calls = run_calls feeds topology in
     let all : Asks (calls ++ (Sink, name) ∷ []) old live.begun = asks_more calls ((Sink, name) ∷ []) old mid live.begun asks live.asks in
     let asked = asked_all (calls ++ (Sink, name) ∷ []) (first_sources feeds went.parts went.more topology went.control went.bodies) (first_sinks feeds went.parts topology went.bodies) old live.begun live.middle all went.back in
     record {
+      legal = went.legal;
       follows = went.follows;
       control = λ unnamed. no_control topology old before topology.control fresh went.control unnamed lines went.obeyed;
       ended = went.ended;
       idle = went.idle;
       outside = record {
         middle = live.middle;
-        outside = opened_outside (calls ++ (Sink, name) ∷ []) feeds whole topology before table opened final fresh old live.begun live.middle clock clock' sound ungated legal handed opens lines all went;
+        outside = opened_outside (calls ++ (Sink, name) ∷ []) feeds whole topology before table opened final fresh old live.begun live.middle clock clock' sound ungated handed opens lines all went;
         sink = live_from calls old mid name text whole failed live.middle new asks live.sink;
       };
       none_failed = λ unnamed. cc;
@@ -118,13 +119,13 @@ run_with_live feeds whole topology before table opened final fresh name text fai
       };
     }
 
-run_of : (live : Option (List ℕ)) (feeds : Feeds) (whole : Bool) (topology : Topology) (before : History) (table opened final : ℕ → Option BodySeen) (fresh : Option LineSeen) (text : List ℕ) (failed : Bool) (old mid new : EdgesSeen) (clock clock' : ClockSeen) → IsSound topology → AreUngated feeds → is_legal topology before ≡ true → AreHandedOut topology table
+run_of : (live : Option (List ℕ)) (feeds : Feeds) (whole : Bool) (topology : Topology) (before : History) (table opened final : ℕ → Option BodySeen) (fresh : Option LineSeen) (text : List ℕ) (failed : Bool) (old mid new : EdgesSeen) (clock clock' : ClockSeen) → IsSound topology → AreUngated feeds → AreHandedOut topology table
     → AreOpened feeds topology (length topology.stages) old table opened → HasSource old (control_call topology.control) None fresh → Asks (run_calls feeds topology) old mid
     → WentWith live feeds whole topology before text failed opened final fresh mid new clock clock' → IsRunOf feeds whole topology before live text failed old new clock clock'
-run_of (Some name) feeds whole topology before table opened final fresh text failed old mid new clock clock' sound ungated legal handed opens lines asks went =
-    run_with_live feeds whole topology before table opened final fresh name text failed old mid new clock clock' sound ungated legal handed opens lines asks went
-run_of None feeds whole topology before table opened final fresh text failed old mid new clock clock' sound ungated legal handed opens lines asks went =
-    run_alone feeds whole topology before table opened final fresh text failed old mid new clock clock' sound ungated legal handed opens lines asks went.0 went.1
+run_of (Some name) feeds whole topology before table opened final fresh text failed old mid new clock clock' sound ungated handed opens lines asks went =
+    run_with_live feeds whole topology before table opened final fresh name text failed old mid new clock clock' sound ungated handed opens lines asks went
+run_of None feeds whole topology before table opened final fresh text failed old mid new clock clock' sound ungated handed opens lines asks went =
+    run_alone feeds whole topology before table opened final fresh text failed old mid new clock clock' sound ungated handed opens lines asks went.0 went.1
 
 -- what was opened was used
 record IsUsedBy (feeds : Feeds) (whole : Bool) (topology : Topology) (before : History) (old : EdgesSeen) : Type 0 where
@@ -172,15 +173,12 @@ pub record IsOpenedFor (feeds : Feeds) (topology : Topology) (table opened : ℕ
   pub asks : Asks (run_calls feeds topology) old mid
   pub callbacks : KeepsCallbacks table opened
 
-legal_of : (topology : Topology) (run : Run) → run.core.topology ≡ topology → Stands run.core → is_legal topology run.core.journal.steps ≡ true
-legal_of topology run same stands = subst (λ (t : Topology). is_legal t run.core.journal.steps ≡ true) same stands.holds.legal
-
 pub ran_in : (r : Result Run NoRun) (live : Option (List ℕ)) (text : History → List ℕ) (feeds : Feeds) (topology : Topology) (table opened final : ℕ → Option BodySeen) (fresh : Option LineSeen) (old mid new : EdgesSeen) (clock clock' : ClockSeen) → AreUngated feeds → IsOpenedFor feeds topology table opened fresh old mid
-    → IfOk r (λ run. run.core.topology ≡ topology) → IfOk r (λ run. Stands run.core) → IfOk r (λ run. WentWith live feeds (is_ok run.end) topology run.core.journal.steps (text run.core.journal.steps) run.unfed opened final fresh mid new clock clock')
+    → IfOk r (λ run. WentWith live feeds (is_ok run.end) topology run.core.journal.steps (text run.core.journal.steps) run.unfed opened final fresh mid new clock clock')
     → IfOk r (λ run. IsRunOf feeds (is_ok run.end) topology run.core.journal.steps live (text run.core.journal.steps) run.unfed old new clock clock')
-ran_in (Ok run) live text feeds topology table opened final fresh old mid new clock clock' ungated o same stands went =
-    run_of live feeds (is_ok run.end) topology run.core.journal.steps table opened final fresh (text run.core.journal.steps) run.unfed old mid new clock clock' o.sound ungated (legal_of topology run same stands) o.handed o.opens o.lines o.asks went
-ran_in (Err e) live text feeds topology table opened final fresh old mid new clock clock' ungated o same stands went = tt
+ran_in (Ok run) live text feeds topology table opened final fresh old mid new clock clock' ungated o went =
+    run_of live feeds (is_ok run.end) topology run.core.journal.steps table opened final fresh (text run.core.journal.steps) run.unfed old mid new clock clock' o.sound ungated o.handed o.opens o.lines o.asks went
+ran_in (Err e) live text feeds topology table opened final fresh old mid new clock clock' ungated o went = tt
 
 pub boxes_in : (r : Result Run NoRun) (live : Option (List ℕ)) (text : History → List ℕ) (feeds : Feeds) (topology : Topology) (table opened final : ℕ → Option BodySeen) (fresh : Option LineSeen) (old mid new : EdgesSeen) (clock clock' : ClockSeen) → IsOpenedFor feeds topology table opened fresh old mid
     → IfOk r (λ run. WentWith live feeds (is_ok run.end) topology run.core.journal.steps (text run.core.journal.steps) run.unfed opened final fresh mid new clock clock')
@@ -190,12 +188,12 @@ boxes_in (Ok run) live text feeds topology table opened final fresh old mid new 
 boxes_in (Err e) live text feeds topology table opened final fresh old mid new clock clock' o went = tt
 
 pub rate_in : (r : Result Run NoRun) (live : Option (List ℕ)) (text : History → List ℕ) (origin : StageSpec → Option Feed) (topology : Topology) (old new : EdgesSeen) (clock clock' : ClockSeen) → IsSound topology → FeedsProducers origin topology
-    → IfOk r (λ run. run.core.topology ≡ topology) → IfOk r (λ run. Stands run.core) → IfOk r (λ run. IsRunOf (at_paces topology origin) (is_ok run.end) topology run.core.journal.steps live (text run.core.journal.steps) run.unfed old new clock clock')
+    → IfOk r (λ run. IsRunOf (at_paces topology origin) (is_ok run.end) topology run.core.journal.steps live (text run.core.journal.steps) run.unfed old new clock clock')
     → IfOk r (λ run. IfSome topology.rate (λ rate. KeepsRate rate run.core.journal.steps))
-rate_in (Ok run) live text origin topology old new clock clock' sound feeds same stands ran =
+rate_in (Ok run) live text origin topology old new clock clock' sound feeds ran =
     let used = used_in live (at_paces topology origin) (is_ok run.end) topology run.core.journal.steps (text run.core.journal.steps) run.unfed old new ran.outside in
-    rate_kept origin (is_ok run.end) topology old run.core.journal.steps used.bodies sound (legal_of topology run same stands) feeds used.used
-rate_in (Err e) live text origin topology old new clock clock' sound feeds same stands ran = tt
+    rate_kept origin (is_ok run.end) topology old run.core.journal.steps used.bodies sound ran.legal feeds used.used
+rate_in (Err e) live text origin topology old new clock clock' sound feeds ran = tt
 
 pub callbacks_in : (r : Result Run NoRun) (table opened final : ℕ → Option BodySeen) → KeepsCallbacks table opened → OnErr r (KeepsCallbacks opened final) → OnErr r (KeepsCallbacks table final)
 callbacks_in (Ok run) table opened final first then = tt

@@ -1,8 +1,9 @@
 -- What the parts of a whole run come to.
-use Rattle.std.specs.Prelude.{◌≡◌, ◌++◌, ◌∷◌, [], ℕ, suc, Bool, false, List, length, IsTrue, IsSome, Option, Some, None}
+use Rattle.std.specs.Prelude.{◌≡◌, ◌++◌, ◌∷◌, [], ℕ, suc, Bool, true, false, List, length, IsTrue, IsSome, Option, Some, None}
 use Rattle.pipe_types.specs.Counts.{Rose}
 use Rattle.pipe_types.specs.declared.topology.Topology.{Topology}
 use Rattle.pipe_model.specs.History.{History}
+use Rattle.pipe_model.specs.Legal.{is_legal}
 use Rattle.pipe_model.specs.Moves.{jobs_out}
 use Rattle.pipe_edges.specs.declared.edges.EdgeKind.{EdgeKind}
 use Rattle.pipe_edges.specs.declared.edges.EdgeKind.TheVariants.{Sink}
@@ -27,6 +28,7 @@ use Rattle.pipe_run.specs.declared.run.NoRun.TheVariants.{Unopened, OutOfMemory}
 -- first and then that of the stages, each source without its gate: all of it, unless memory was wanting, and then the first parts, and so
 -- many of the sources of the next one
 pub record WentOn (feeds : Feeds) (whole : Bool) (topology : Topology) (before : History) (opened final : ℕ → Option BodySeen) (fresh : Option LineSeen) (old new : EdgesSeen) (clock clock' : ClockSeen) : Type 0 where
+  pub legal : is_legal topology before ≡ true
   pub follows : FollowsMoves topology before
   pub ended : IsTrue whole → HasCome topology before
   pub idle : IsTrue whole → IsIdleWithin topology before

@@ -3,7 +3,7 @@ use Rattle.std.specs.Prelude.{◌≡◌, ◌≤◌, ◌⊎◌, ◌++◌, ◌∷�
 use Rattle.pipe_types.specs.Counts.{Rose}
 use Rattle.pipe_types.specs.declared.topology.Topology.{Topology}
 use Rattle.pipe_model.specs.History.{History}
-use Rattle.pipe_model.specs.Legal.{happened, is_halt}
+use Rattle.pipe_model.specs.Legal.{happened, is_halt, is_legal}
 use Rattle.pipe_model.specs.Moves.{is_drained, jobs_out}
 use Rattle.pipe_edges.specs.declared.edges.EdgeKind.{EdgeKind}
 use Rattle.pipe_laws.specs.Followed.{FollowsMoves}
@@ -31,10 +31,11 @@ abbrev pub IsTimeOf : (whole : Bool) → History → (old new : ClockSeen) → T
 IsTimeOf true before old new = KeepsClock before old new
 IsTimeOf false before old new = KeepsClockPartly before old new
 
--- a run to its end, or until memory was wanting: each step of its own accord was the next move, none comes from a control
+-- a run to its end, or until memory was wanting: its journal is legal, each step of its own accord was the next move, none comes from a control
 -- source where none is named, its rows of quiet answers keep to the idle limit, and its time is the clock's; its live sink, where
 -- one is named, is to get this text, and it alone may have failed
 pub record IsRunOf (feeds : Feeds) (whole : Bool) (topology : Topology) (before : History) (live : Option (List ℕ)) (text : List ℕ) (failed : Bool) (old new : EdgesSeen) (clock clock' : ClockSeen) : Type 0 where
+  pub legal : is_legal topology before ≡ true
   pub follows : FollowsMoves topology before
   pub control : topology.control ≡ None → HasNoControl before
   pub ended : IsTrue whole → HasCome topology before

@@ -2,7 +2,6 @@
 
 ghost use Rattle.std.specs.Prelude.{◌≡◌, ◌≤◌, ◌<◌, ◌*◌, ℕ, [], length, true, false, IsTrue, map, option_map, is_ok, IfOk, IfErr, IfSome, OnOk, OnErr};
 ghost use Rattle.pipe_types.specs.Sound.{IsSound};
-ghost use Rattle.core_state.specs.Stands.{Stands};
 ghost use Rattle.stage_bodies.specs.{Seen.{body_at, line_seen, sink_seen}, Jobs.{Both}};
 ghost use Rattle.body_laws.specs.Ready.{IsFilled};
 ghost use Rattle.run_pipe.specs.{Keeping.{IsFresh}, Clocks.{clock_seen}, Ends.{HasEnded}, Watches.{HasSeen, KeepsWatch, watch_seen}};
@@ -13,13 +12,13 @@ ghost use Rattle.pipe_run.specs.{Boxes.{AreBoxesLeft, AreSameBoxes, LeavesCallba
 
 use crate::live::{Live, NotLive, back_sink, open_live};
 use box_stock::{Boxed, Carries, Lent, hand_out, take_back};
-use core_state::Core;
 use edge_names::{SeenEdges, Supply, Unopened, give_back, open_or_give_back};
 use pipe_edges::{ByteSource, Clock, Edges, LineSource};
 use pipe_journal::{NoWatch, Watch};
 use pipe_types::bytes::Text;
 use pipe_types::topology::Topology;
 use rate_gate::GatedSource;
+use run_core::RunCore;
 use run_pipe::{Pipe, PipeParts, RunEnd, run_workers};
 use stage_bodies::Houses;
 use std::alloc::{AllocError, Global};
@@ -29,7 +28,7 @@ use std::thread::Threads;
 /// A run, and how it ended. The error is want of memory; the journal then holds what was appended so far.
 #[derive(Drop)]
 pub struct Run {
-    pub core: Core,
+    pub core: RunCore,
     pub end: Result<RunEnd, AllocError>,
     /// Whether the live sink failed.
     pub unfed: bool,
@@ -94,7 +93,6 @@ pub fn run_topology<
     requires unmerged { IsUnmerged topology (Q.feeds supply.now) }
     requires suffices { Suffices topology (kinds_of C.seen stock.items) }
     ensures topology { IfOk result.run (λ run. run.core.topology ≡ topology) }
-    ensures stands { IfOk result.run (λ run. Stands run.core) }
     ensures ran { IfOk result.run (λ run. IsRunOf (at_paces topology (Q.feeds supply.now)) (is_ok run.end) topology run.core.journal.steps live.now (L.text topology run.core.journal.steps) run.unfed (⟦<E as SeenEdges>⟧.seen edges.old) (⟦<E as SeenEdges>⟧.seen edges.new)
         (clock_seen K.latest K.readings K.pauses clock) (clock_seen K.latest K.readings K.pauses result.clock)) }
     ensures ended { IfOk result.run (λ run. IfOk run.end (HasEnded topology run.core.journal.steps)) }
@@ -148,7 +146,6 @@ fn run_bodies<
     requires unmerged { IsUnmerged topology (Q.feeds supply.now) }
     requires handed { AreHandedOut topology (body_at B.look bodies.items) }
     ensures topology { IfOk result.run (λ run. run.core.topology ≡ topology) }
-    ensures stands { IfOk result.run (λ run. Stands run.core) }
     ensures ran { IfOk result.run (λ run. IsRunOf (at_paces topology (Q.feeds supply.now)) (is_ok run.end) topology run.core.journal.steps live.now (L.text topology run.core.journal.steps) run.unfed (⟦<E as SeenEdges>⟧.seen edges.old) (⟦<E as SeenEdges>⟧.seen edges.new)
         (clock_seen K.latest K.readings K.pauses clock) (clock_seen K.latest K.readings K.pauses result.clock)) }
     ensures ended { IfOk result.run (λ run. IfOk run.end (HasEnded topology run.core.journal.steps)) }
@@ -160,7 +157,7 @@ fn run_bodies<
     ensures same_clock { OnErr result.run (result.clock ≡ clock) }
 {
     let mut bodies = bodies;
-    let Ok(core) = Core::new(alloc, topology) else {
+    let Ok(core) = RunCore::new(alloc, topology) else {
         return Left {
             run: Err(NoRun::OutOfMemory),
             bodies,
@@ -198,18 +195,16 @@ fn run_live<
     supply: &Q,
     workers: u16,
     live: &Option<Text>,
-    core: Core,
+    core: RunCore,
     control: Option<LineSource<E::Source>>,
     bodies: Vec<Option<B>>,
     edges: &mut E,
     clock: K,
 ) -> Left<B, K>
-    requires stands { Stands core }
     requires empty { core.journal.steps ≡ [] }
     requires filled { IsFilled core.topology (body_at B.look bodies.items) }
     requires fresh { IfSome (option_map (line_seen E.Source.ByteSource) control) IsFresh }
     ensures topology { IfOk result.run (λ run. run.core.topology ≡ core.topology) }
-    ensures stands { IfOk result.run (λ run. Stands run.core) }
     ensures ended { IfOk result.run (λ run. IfOk run.end (HasEnded core.topology run.core.journal.steps)) }
     ensures went { IfOk result.run (λ run. WentWith live.now (at_paces core.topology (Q.feeds supply.now)) (is_ok run.end) core.topology run.core.journal.steps (L.text core.topology run.core.journal.steps) run.unfed
         (body_at B.look bodies.items) (body_at B.look result.bodies.items) (option_map (line_seen E.Source.ByteSource) control) (⟦<E as SeenEdges>⟧.seen edges.old) (⟦<E as SeenEdges>⟧.seen edges.new) (clock_seen K.latest K.readings K.pauses clock) (clock_seen K.latest K.readings K.pauses result.clock)) }
@@ -254,18 +249,16 @@ fn run_fed<
     supply: &Q,
     workers: u16,
     name: &Text,
-    core: Core,
+    core: RunCore,
     control: Option<LineSource<E::Source>>,
     bodies: Vec<Option<B>>,
     edges: &mut E,
     clock: K,
 ) -> Left<B, K>
-    requires stands { Stands core }
     requires empty { core.journal.steps ≡ [] }
     requires filled { IsFilled core.topology (body_at B.look bodies.items) }
     requires fresh { IfSome (option_map (line_seen E.Source.ByteSource) control) IsFresh }
     ensures topology { IfOk result.run (λ run. run.core.topology ≡ core.topology) }
-    ensures stands { IfOk result.run (λ run. Stands run.core) }
     ensures ended { IfOk result.run (λ run. IfOk run.end (HasEnded core.topology run.core.journal.steps)) }
     ensures went { IfOk result.run (λ run. WentLive name.now (at_paces core.topology (Q.feeds supply.now)) (is_ok run.end) core.topology run.core.journal.steps (L.text core.topology run.core.journal.steps) run.unfed
         (body_at B.look bodies.items) (body_at B.look result.bodies.items) (option_map (line_seen E.Source.ByteSource) control) (⟦<E as SeenEdges>⟧.seen edges.old) (⟦<E as SeenEdges>⟧.seen edges.new) (clock_seen K.latest K.readings K.pauses clock) (clock_seen K.latest K.readings K.pauses result.clock)) }
@@ -370,14 +363,13 @@ fn run_opened<
     alloc: Global,
     supply: &Q,
     workers: u16,
-    core: Core,
+    core: RunCore,
     control: Option<LineSource<E::Source>>,
     bodies: Vec<Option<B>>,
     edges: &mut E,
     clock: K,
     watch: W,
 ) -> Went<B, K, W>
-    requires stands { Stands core }
     requires empty { core.journal.steps ≡ [] }
     requires filled { IsFilled core.topology (body_at B.look bodies.items) }
     requires fresh { IfSome (option_map (line_seen E.Source.ByteSource) control) IsFresh }
@@ -385,7 +377,6 @@ fn run_opened<
     requires unseen { W.stands watch [] }
     requires unfailed { W.failed watch ≡ false }
     ensures topology { result.run.core.topology ≡ core.topology }
-    ensures stands { Stands result.run.core }
     ensures ended { IfOk result.run.end (HasEnded core.topology result.run.core.journal.steps) }
     ensures went { WentOn (at_paces core.topology (Q.feeds supply.now)) (is_ok result.run.end) core.topology result.run.core.journal.steps (body_at B.look bodies.items) (body_at B.look result.bodies.items)
         (option_map (line_seen E.Source.ByteSource) control)

@@ -4,13 +4,13 @@ use Rattle.std.specs.Prelude.{IfSome, unwrap_or}
 use Rattle.std.proofs.lemmas.List.{append-nil, take_all, take_at}
 use Rattle.pipe_types.specs.Counts.{Rose}
 use Rattle.pipe_types.specs.Sound.{IsSound}
+use Rattle.pipe_model.specs.Legal.{is_legal}
 use Rattle.pipe_types.specs.declared.topology.Rate.{Rate}
 use Rattle.pipe_types.specs.declared.topology.StageSpec.{StageSpec}
 use Rattle.pipe_types.specs.declared.topology.Topology.{Topology}
 use Rattle.pipe_model.specs.History.{History}
 use Rattle.pipe_edges.specs.declared.edges.EdgeKind.{EdgeKind}
 use Rattle.core_state.specs.declared.state.Core.{Core}
-use Rattle.core_state.specs.Stands.{Stands}
 use Rattle.pipe_laws.specs.Followed.{FollowsMoves}
 use Rattle.pipe_laws.specs.Read.{HasNoControl}
 use Rattle.rate_laws.specs.Rates.{KeepsRate}
@@ -68,11 +68,11 @@ all_asked (Refused (NoTopology fault)) calls asked asked' is = is
 all_asked (Refused (Stock shortage)) calls asked asked' is = is
 all_asked (Refused (Audit fault)) calls asked asked' is = is
 
--- a run that the core stands for
-run_by : (core : Core) → Stands core → FollowsMoves core.topology core.journal.steps → (core.topology.control ≡ None → HasNoControl core.journal.steps)
+-- a run whose journal is legal
+run_by : (core : Core) → IsSound core.topology → is_legal core.topology core.journal.steps ≡ true → FollowsMoves core.topology core.journal.steps → (core.topology.control ≡ None → HasNoControl core.journal.steps)
     → IfSome core.topology.rate (λ rate. KeepsRate rate core.journal.steps) → IsRun core.topology core.journal.steps
-run_by core x follows control rated = record {
-  claims = keeps_claims core.topology core.journal.steps x.holds.sound x.holds.legal;
+run_by core sound legal follows control rated = record {
+  claims = keeps_claims core.topology core.journal.steps sound legal;
   moves = follows;
   control = control;
   rate = rated;
@@ -97,16 +97,16 @@ unrun topology sound = record {
 
 -- what was named was opened
 pub ran : (old new : OutsideSeen) (shows : Shows) (live : Option (List ℕ)) (feeding : Feeding) (feeds : StageSpec → Option Feed) (wanted : Topology) (whole unfed : Bool) (core : Core) (topology : Option Topology) (before : History) (verdict : Verdict)
-    → IsFedBy feeding wanted feeds → core.topology ≡ wanted → Stands core → IsRunOf (at_paces wanted feeds) whole wanted core.journal.steps live (ack_text wanted core.journal.steps) unfed old.edges new.edges old.clock new.clock → IfSome wanted.rate (λ rate. KeepsRate rate core.journal.steps)
+    → IsFedBy feeding wanted feeds → IsSound wanted → core.topology ≡ wanted → IsRunOf (at_paces wanted feeds) whole wanted core.journal.steps live (ack_text wanted core.journal.steps) unfed old.edges new.edges old.clock new.clock → IfSome wanted.rate (λ rate. KeepsRate rate core.journal.steps)
     → AreBoxesLeft whole wanted core.journal.steps old.boxes new.boxes
     → topology ≡ Some core.topology → before ≡ core.journal.steps → IsJudgement verdict shows live core.topology core.journal.steps → ShowsUnfed verdict unfed → (whole ≡ false → verdict ≡ Refused Memory)
     → ComesBy old new (Runs shows live feeding wanted) (with_live live (run_calls (feeds_of feeding wanted) wanted)) topology before verdict
-ran old new shows live feeding feeds wanted whole unfed core topology before verdict fed same stands went rated boxes own steps judged said wanting =
+ran old new shows live feeding feeds wanted whole unfed core topology before verdict fed sound same went rated boxes own steps judged said wanting =
     let r = subst (λ (f : StageSpec → Option Feed). IsRunOf (at_paces wanted f) whole wanted core.journal.steps live (ack_text wanted core.journal.steps) unfed old.edges new.edges old.clock new.clock) fed.is went in
-    let run : IsRun wanted core.journal.steps = rw same at (run_by core stands (rw same r.follows) (rw same r.control) (rw same rated)) in
+    let run : IsRun wanted core.journal.steps = rw same at (run_by core (rw same sound) (rw same r.legal) (rw same r.follows) (rw same r.control) (rw same rated)) in
     rw (own ∙ ap Some same, steps) (record {
       outcome = inr (record {
-        sound = rw same at stands.holds.sound;
+        sound = sound;
         few = fed.few;
         own = refl;
         run = run;

@@ -2,7 +2,6 @@
 
 ghost use Rattle.std.specs.Prelude.{◌≡◌, [], true, false, Some, None, is_ok, if◌then◌else◌, map, option_map};
 ghost use Rattle.pipe_types.specs.Sound.{IsSound};
-ghost use Rattle.core_state.specs.Stands.{Stands};
 ghost use Rattle.pipe_run.specs.{Clocks.{clock_seen}, Live.{with_live}, Whole.{HasCome}};
 ghost use Rattle.edge_names.specs.{Supplies.{FeedsProducers, IsUnmerged}, Controls.{run_calls}};
 ghost use Rattle.box_stock.specs.{Homes.{Suffices}, Lends.{kinds_of}};
@@ -12,7 +11,6 @@ ghost use Rattle.pipe_top.specs.{Cases.{Feeding, feeds_of, Runs, run_case, openi
 
 use crate::feeds::SinkFeed;
 use box_stock::{Boxed, Carries, boxes_in};
-use core_state::Core;
 use edge_names::{SeenEdges, Supply};
 use journal_texts::status::status;
 use pipe_edges::{Clock, Edges};
@@ -22,6 +20,7 @@ use pipe_types::bytes::Text;
 use pipe_types::topology::Topology;
 use program_words::feed_line;
 use rate_gate::GatedSource;
+use run_core::RunCore;
 use run_verdicts::{Refusal, Shows, Texts, Verdict, places_of, texts_of};
 use stage_bodies::Houses;
 use std::alloc::Global;
@@ -152,7 +151,6 @@ fn conclude<C, K>(
     stock: Vec<C>,
     clock: K,
 ) -> Ran<C, K>
-    requires stands { Stands run.core }
     requires come { is_ok run.end ≡ true → HasCome run.core.topology run.core.journal.steps }
     requires fed { live.now ≡ None → run.unfed ≡ false }
     ensures topology { result.topology ≡ Some run.core.topology }
@@ -180,8 +178,7 @@ fn conclude<C, K>(
 }
 
 /// The texts of a run that came to its end, and its status or the line of its live sink, which failed.
-fn judge(alloc: Global, core: &Core, shows: Shows, live: &Option<Text>, unfed: bool) -> Verdict
-    requires stands { Stands core.now }
+fn judge(alloc: Global, core: &RunCore, shows: Shows, live: &Option<Text>, unfed: bool) -> Verdict
     requires come { HasCome core.now.topology core.now.journal.steps }
     requires fed { live.now ≡ None → unfed ≡ false }
     ensures verdict { IsJudgement result shows live.now core.now.topology core.now.journal.steps }

@@ -10,7 +10,6 @@ use super::case::Case;
 use super::outside::{clock, world_of};
 use body_jobs::Body;
 use box_stock::{Boxed, Carries, boxes_in, hand_out, stocks_without_shortage_suffice};
-use core_state::Core;
 use edge_names::{ByName, open_or_give_back};
 use mem_edges::{MemClock, MemEdges, MemSink, MemSource};
 use pipe_config::read_topology;
@@ -18,6 +17,7 @@ use pipe_edges::{Clock, Edges};
 use pipe_journal::{Journal, StepView, Watch, WatchEnd};
 use pipe_types::topology::Topology;
 use rate_gate::GatedSource;
+use run_core::RunCore;
 use run_pipe::{Pipe, PipeParts, run_here};
 use stage_bodies::Houses;
 use stage_callback::{LinesBox, StepsBox};
@@ -58,7 +58,7 @@ impl Watch for Lengths {
 #[derive(Drop)]
 struct Shown {
     lengths: Vec<u64>,
-    core: Core,
+    core: RunCore,
 }
 
 /// Runs the topology of the case in this thread alone, and writes whether the journals that it shows ever get shorter, and whether
@@ -178,7 +178,7 @@ fn run_bodies<
     requires handed { AreHandedOut topology (body_at B.look bodies.items) }
 {
     let mut bodies = bodies;
-    let Ok(core) = Core::new(alloc, topology) else {
+    let Ok(core) = RunCore::new(alloc, topology) else {
         return None;
     };
     let supply = ByName::of_file(alloc, core.topology());

@@ -371,6 +371,8 @@ module _ {B : Type 0} (look : B → BodySeen) (brought : Option (Home B)) (came 
   -- the pipe is whole behind the hold
   pub holds_whole : IsWhole old → IsWhole new
   holds_whole w = record {
+    sound = subst IsSound (sym topology) held.sound;
+    legal = subst (λ (t : Topology). is_legal t new.steps ≡ true) (sym topology) held.legal;
     follows = subst (λ (t : Topology). FollowsMoves t new.steps) (sym topology) (held.follows w.follows);
     ready = subst (λ (t : Topology). Ready t new.steps new.home) (sym topology) held.ready;
     ended = subst (λ (e : Option (Result RunEnd AllocError)). IfSome e (λ end. IfOk end (HasEnded new.topology new.steps))) (sym end)

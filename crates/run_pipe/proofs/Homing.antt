@@ -162,6 +162,8 @@ module _ {B T F : Type 0} (look : B → BodySeen) (home : Home B) (p : PipeState
 
   pub home_whole : IsWhole new
   home_whole = record {
+    sound = subst IsSound (sym same) w.sound;
+    legal = subst (λ (t : Topology). is_legal t after ≡ true) (sym same) legal;
     follows = subst (λ (t : Topology). FollowsMoves t after) (sym same) (c.follows w.follows);
     ready = subst (λ (t : Topology). Ready t after back) (sym same) c.ready;
     ended = short_ended p.end no_memory;

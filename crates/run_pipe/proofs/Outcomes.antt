@@ -5,6 +5,7 @@ use Rattle.std.specs.declared.alloc.AllocError.{AllocError}
 use Rattle.pipe_types.specs.declared.numbers.Post.{Post}
 use Rattle.pipe_types.specs.declared.topology.Topology.{Topology}
 use Rattle.pipe_model.specs.History.{History}
+use Rattle.pipe_model.specs.Legal.{is_legal}
 use Rattle.pipeline_turn.proofs.Journals.{begins_itself}
 use Rattle.pipe_laws.specs.Followed.{FollowsMoves}
 use Rattle.stage_bodies.specs.Seen.{LineSeen, BodySeen}
@@ -57,6 +58,7 @@ has_ended : (opened p : PipeState) (end : Result RunEnd AllocError) → Stems op
 has_ended opened p end s w none is = record {
   topology = s.topology;
   begins = s.begins;
+  legal = subst (λ (t : Topology). is_legal t p.steps ≡ true) s.topology w.legal;
   follows = subst (λ (t : Topology). FollowsMoves t p.steps) s.topology w.follows;
   keeps = s.keeps;
   stay = all_stay opened p s none;
@@ -90,7 +92,7 @@ abbrev pub short_of : PipeState → AllocError → PipeState
 short_of p error = record p { end = Some (Err error) }
 
 pub short_whole : (p : PipeState) (error : AllocError) → IsWhole p → IsWhole (short_of p error)
-short_whole p error w = record { follows = w.follows; ready = w.ready; ended = tt; outs = λ memory. absurd memory; idle = λ memory. absurd memory }
+short_whole p error w = record { sound = w.sound; legal = w.legal; follows = w.follows; ready = w.ready; ended = tt; outs = λ memory. absurd memory; idle = λ memory. absurd memory }
 
 pub short_stems : (opened p : PipeState) (error : AllocError) → Stems opened p → Stems opened (short_of p error)
 short_stems opened p error s = record {

@@ -3,7 +3,9 @@ use Rattle.std.proofs.Common.{◌≡◌, ℕ, zero, suc, List, [], ◌∷◌, Bo
 use Rattle.std.specs.Prelude.{◌&&◌, IfSome, IsSome, is_none}
 use Rattle.pipe_types.specs.declared.numbers.Post.{Post}
 use Rattle.pipe_types.specs.declared.topology.Topology.{Topology}
+use Rattle.pipe_types.specs.Sound.{IsSound}
 use Rattle.pipe_model.specs.History.{History}
+use Rattle.pipe_model.specs.Legal.{is_legal}
 use Rattle.pipe_model.specs.Posts.{is_out}
 use Rattle.pipe_laws.specs.Followed.{FollowsMoves}
 use Rattle.pipeline_turn.proofs.Journals.{begins_itself}
@@ -26,6 +28,7 @@ use Rattle.run_pipe.proofs.Watching.{watch_itself}
 
 -- an unused pipe
 pub record IsFirst (p : PipeState) : Type 0 where
+  pub sound : IsSound p.topology
   pub going : p.end ≡ None
   pub empty : p.steps ≡ []
   pub filled : IsFilled p.topology p.home
@@ -33,6 +36,8 @@ pub record IsFirst (p : PipeState) : Type 0 where
 
 pub first_whole : (p : PipeState) → IsFirst p → IsWhole p
 first_whole p u = record {
+  sound = u.sound;
+  legal = subst (λ (h : History). is_legal p.topology h ≡ true) (sym u.empty) refl;
   follows = subst (λ (h : History). FollowsMoves p.topology h) (sym u.empty) tt;
   ready = subst (λ (h : History). Ready p.topology h p.home) (sym u.empty) u.filled.ready;
   ended = rw u.going tt;

@@ -1,7 +1,8 @@
 -- What a run of a pipe comes to.
-use Rattle.std.specs.Prelude.{◌≡◌, ◌≤◌, ℕ, [], None, IsSome, IfOk, OnOk, Result}
+use Rattle.std.specs.Prelude.{◌≡◌, ◌≤◌, ℕ, [], true, None, IsSome, IfOk, OnOk, Result}
 use Rattle.std.specs.declared.alloc.AllocError.{AllocError}
 use Rattle.pipe_model.specs.Begins.{BeginsWith}
+use Rattle.pipe_model.specs.Legal.{is_legal}
 use Rattle.pipe_laws.specs.Followed.{FollowsMoves}
 use Rattle.body_laws.specs.Keeps.{Keeps}
 use Rattle.stage_holds.specs.Keeping.{KeepsControlOn}
@@ -27,12 +28,13 @@ pub record RanToEnd (old new : PipeState) : Type 0 where
 abbrev pub IsIdleWithin : (old new : PipeState) → Type 0
 IsIdleWithin old new = old.end ≡ None → HasMemory new.end → RowsWithin new.topology.idle_limit old.steps → RowsWithin new.topology.idle_limit new.steps
 
--- steps were added, each of the pipeline's own as the next move when it came; the bodies, the control source and the clock stand where the
+-- steps were added, each legal, and each of the pipeline's own the next move when it came; the bodies, the control source and the clock stand where the
 -- journal leaves them; each body that was at home is; the watch began as it did; where there is an idle limit, the rows of quiet answers keep to it up to the drain;
 -- and the run ended as it says
 pub record HasRun (opened final : PipeState) (end : Result RunEnd AllocError) : Type 0 where
   pub topology : final.topology ≡ opened.topology
   pub begins : BeginsWith final.steps opened.steps
+  pub legal : is_legal opened.topology final.steps ≡ true
   pub follows : FollowsMoves opened.topology final.steps
   pub keeps : Keeps opened.topology final.steps opened.home final.home
   pub stay : (at : ℕ) → IsSome (opened.home at) → IsSome (final.home at)

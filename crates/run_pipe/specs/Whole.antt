@@ -2,7 +2,9 @@
 use Rattle.std.specs.Prelude.{◌≡◌, ◌≤◌, Bool, true, IfSome, IfOk, Contains}
 use Rattle.pipe_types.specs.declared.numbers.Post.{Post}
 use Rattle.pipe_types.specs.declared.topology.Topology.{Topology}
+use Rattle.pipe_types.specs.Sound.{IsSound}
 use Rattle.pipe_model.specs.History.{History}
+use Rattle.pipe_model.specs.Legal.{is_legal}
 use Rattle.pipe_model.specs.Posts.{is_out}
 use Rattle.pipe_laws.specs.Followed.{FollowsMoves}
 use Rattle.body_laws.specs.Ready.{Ready}
@@ -13,9 +15,11 @@ use Rattle.run_pipe.specs.Idle.{IsIdle}
 use Rattle.run_pipe.specs.Seen.{PipeState, away_of}
 use Rattle.run_pipe.specs.Watches.{HasSeen}
 
--- each step of its own accord was the next move; the bodies at home are ready; it has ended as it says; and a post that is out is
+-- its topology is sound and its journal legal, and each step of its own accord was the next move; the bodies at home are ready; it has ended as it says; and a post that is out is
 -- away, and the rows of quiet answers keep to the idle limit, unless memory was wanting
 pub record IsWhole (p : PipeState) : Type 0 where
+  pub sound : IsSound p.topology
+  pub legal : is_legal p.topology p.steps ≡ true
   pub follows : FollowsMoves p.topology p.steps
   pub ready : Ready p.topology p.steps p.home
   pub ended : IfSome p.end (λ end. IfOk end (HasEnded p.topology p.steps))

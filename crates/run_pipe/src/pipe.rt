@@ -1,7 +1,6 @@
 //! The value that workers hand about.
 
 ghost use Rattle.std.specs.Prelude.{◌≡◌, [], None, Some, Err, IfSome, false, map, nat_le, option_map};
-ghost use Rattle.core_state.specs.Stands.{Stands};
 ghost use Rattle.stage_bodies.specs.Seen.{body_at, line_seen};
 ghost use Rattle.body_laws.specs.Ready.{IsFilled};
 ghost use Rattle.stage_holds.specs.{Keeping.{IsFresh}, Clocks.{clock_seen}};
@@ -14,6 +13,7 @@ use pipe_edges::{ByteSource, Clock, LineSource};
 use pipe_journal::Journal;
 use pipe_types::numbers::Post;
 use pipeline_turn::Held;
+use run_core::RunCore;
 use stage_bodies::Works;
 use std::alloc::AllocError;
 use std::marker::Model;
@@ -63,7 +63,7 @@ impl<B: Works, S: ByteSource, C: Clock, W: Shown> Held for Pipe<B, S, C, W> {
 /// What a pipe is made of.
 #[derive(Drop)]
 pub struct PipeParts<B, S, C, W> {
-    pub core: Core,
+    pub core: RunCore,
     /// By place.
     pub bodies: Vec<Option<B>>,
     pub control: Option<LineSource<S>>,
@@ -79,13 +79,12 @@ impl<B: Works, S: ByteSource, C: Clock, W: Shown> Pipe<B, S, C, W> {
     /// A pipe before its first step: the body of each post is at home, nothing was read of the control source, and the watch has seen
     /// nothing.
     pub fn new(
-        core: Core,
+        core: RunCore,
         bodies: Vec<Option<B>>,
         control: Option<LineSource<S>>,
         clock: C,
         watch: W,
     ) -> Pipe<B, S, C, W>
-        requires stands { Stands core }
         requires empty { core.journal.steps ≡ [] }
         requires filled { IsFilled core.topology (body_at B.look bodies.items) }
         requires fresh { IfSome (option_map (line_seen S.ByteSource) control) IsFresh }
@@ -96,8 +95,9 @@ impl<B: Works, S: ByteSource, C: Clock, W: Shown> Pipe<B, S, C, W> {
         ensures stems { Stems (state_of result) (state_of result) }
         ensures none_away { away_of (state_of result) ≡ [] }
     {
+        let RunCore { state } = core;
         Pipe {
-            core,
+            core: state,
             bodies,
             control,
             clock,
@@ -109,7 +109,6 @@ impl<B: Works, S: ByteSource, C: Clock, W: Shown> Pipe<B, S, C, W> {
 
     /// The core, the bodies, the control source, the clock and the watch, and how the run ended.
     pub fn into_parts(self) -> PipeParts<B, S, C, W>
-        ensures stands { Stands result.core }
         ensures whole { IsWhole (state_of self) }
         ensures parts { state_of self ≡ state_by B.look (line_seen S.ByteSource) (clock_seen C.latest C.readings C.pauses) W.sight result.core result.bodies.items result.control result.clock result.watch result.end }
         ensures known { result.has_failed ≡ (W.sight result.watch).failed }
@@ -125,7 +124,7 @@ impl<B: Works, S: ByteSource, C: Clock, W: Shown> Pipe<B, S, C, W> {
             end,
         } = self;
         PipeParts {
-            core,
+            core: RunCore { state: core },
             bodies,
             control,
             clock,

@@ -108,15 +108,13 @@ returns-in-Ok-open_or_give_back-clause-ran g c =
     let all = (goal.at.returns-in-Ok-open_or_give_back-clause-ran g c).After-run_live in
     let final = body_at g.B.Works.look c.run_live.result.bodies.items in
     let time = clock_seen g.K.Clock.latest g.K.Clock.readings g.K.Clock.pauses in
-    ran_in c.run_live.result.run c.args.live.now (g.L.Live.text c.args.topology) _ c.args.topology _ _ final _ _ _ (seen_by g.E.Edges g.E.Source.ByteSource g.E.Sink.ByteSink c.run_live.new.edges) (time c.args.clock) (time c.run_live.result.clock) (ungated c.args.topology (g.Q.Supply.feeds c.args.supply.now) c.requires.unmerged) (ready g all) (returns-in-Ok-open_or_give_back-clause-topology g c)
-    c.run_live.ensures.stands (went g all)
+    ran_in c.run_live.result.run c.args.live.now (g.L.Live.text c.args.topology) _ c.args.topology _ _ final _ _ _ (seen_by g.E.Edges g.E.Source.ByteSource g.E.Sink.ByteSink c.run_live.new.edges) (time c.args.clock) (time c.run_live.result.clock) (ungated c.args.topology (g.Q.Supply.feeds c.args.supply.now) c.requires.unmerged) (ready g all) (went g all)
 
 pub returns-in-Ok-open_or_give_back-clause-rate : goal.returns-in-Ok-open_or_give_back-clause-rate
 returns-in-Ok-open_or_give_back-clause-rate g c =
     let seen = seen_by g.E.Edges g.E.Source.ByteSource g.E.Sink.ByteSink in
     let time = clock_seen g.K.Clock.latest g.K.Clock.readings g.K.Clock.pauses in
-    rate_in c.run_live.result.run c.args.live.now (g.L.Live.text c.args.topology) (g.Q.Supply.feeds c.args.supply.now) c.args.topology (seen c.args.edges.now) (seen c.run_live.new.edges) (time c.args.clock) (time c.run_live.result.clock) c.requires.sound c.requires.fed
-    (returns-in-Ok-open_or_give_back-clause-topology g c) c.run_live.ensures.stands (returns-in-Ok-open_or_give_back-clause-ran g c)
+    rate_in c.run_live.result.run c.args.live.now (g.L.Live.text c.args.topology) (g.Q.Supply.feeds c.args.supply.now) c.args.topology (seen c.args.edges.now) (seen c.run_live.new.edges) (time c.args.clock) (time c.run_live.result.clock) c.requires.sound c.requires.fed (returns-in-Ok-open_or_give_back-clause-ran g c)
 
 pub returns-in-Ok-open_or_give_back-clause-ended : goal.returns-in-Ok-open_or_give_back-clause-ended
 returns-in-Ok-open_or_give_back-clause-ended g c =

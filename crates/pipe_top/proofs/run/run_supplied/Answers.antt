@@ -8,7 +8,7 @@ returns-in-Ok-clause-comes g c =
     let q = c.conclude in
     let is = c.in-Ok.is in
     λ feeding fed. ran _ _ c.args.shows c.args.live feeding _ c.args.topology (is_ok c.in-Ok.run'.end) c.in-Ok.run'.unfed c.in-Ok.run'.core q.result.topology q.result.journal.steps q.result.verdict
-    fed (rw is at r.topology) (rw is at r.stands) (rw q.ensures.same_clock (rw is at r.ran)) (rw is at r.rate) (rw q.ensures.same_boxes (rw is at r.boxes)) q.ensures.topology q.ensures.journal q.ensures.verdict q.ensures.unfed q.ensures.wanting
+    fed c.requires.sound (rw is at r.topology) (rw q.ensures.same_clock (rw is at r.ran)) (rw is at r.rate) (rw q.ensures.same_boxes (rw is at r.boxes)) q.ensures.topology q.ensures.journal q.ensures.verdict q.ensures.unfed q.ensures.wanting
 
 pub returns-in-Err-Unopened-clause-comes : goal.returns-in-Err-Unopened-clause-comes
 returns-in-Err-Unopened-clause-comes g c =
