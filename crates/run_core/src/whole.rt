@@ -2,7 +2,8 @@
 
 ghost use Rattle.std.specs.Prelude.{◌≡◌, [], IfOk, IfErr};
 ghost use Rattle.pipe_types.specs.Sound.{IsSound};
-ghost use Rattle.pipe_model.specs.{History.{incarnation, now as last_tick}, Lives.{is_live}, Posts.{is_out}};
+ghost use Rattle.core_state.specs.Stands.{Stands};
+ghost use Rattle.pipe_model.specs.{History.{incarnation, now as last_tick}, Legal.{happened, is_halt}, Lives.{is_live}, Posts.{is_out}};
 
 use core_state::Core;
 use pipe_journal::Journal;
@@ -41,6 +42,14 @@ impl RunCore {
             Ok(state) => Ok(RunCore { state }),
             Err(refused) => Err(refused),
         }
+    }
+
+    /// A law: it stands.
+    #[inline]
+    pub fn stands(&self)
+        ensures { Stands self.now }
+    {
+        let _ = &self.state;
     }
 
     /// The topology and the journal.
@@ -87,6 +96,14 @@ impl RunCore {
         ensures { result ≡ is_live self.now.topology self.now.journal.steps stage }
     {
         self.state.is_live(stage)
+    }
+
+    /// Whether the pipeline has halted.
+    #[inline]
+    pub fn is_halted(&self) -> bool
+        ensures { result ≡ happened is_halt self.now.journal.steps }
+    {
+        self.state.totals.halted
     }
 
     /// Whether the job of the post is out.
