@@ -7,21 +7,19 @@
 //! `late S SLOT INCARNATION` are steps by hand. `read N` reads N control lines.
 //! `kills S FROM TO TEXTS` and `drains ..` are runs of their own (`kills.rt`). The other acts tell (`tell.rt`).
 
-ghost use Rattle.core_state.specs.Stands.{Stands};
 
 use super::case::{Case, halves, number, small};
 use super::drive::{MOVES, bring, core_of, drive, try_step};
 use super::kills::tell_kills;
 use super::tell::tell;
 use control_lines::read_control;
-use core_rows::jobs::is_halted;
-use core_state::Core;
 use mem_edges::{MemSource, SourceAct, SourceScript};
 use pipe_edges::LineSource;
 use pipe_types::bytes::Bytes;
 use pipe_types::message::Why;
 use pipe_types::numbers::StageNo;
 use pipe_types::step::{DrainCause, LateAnswer, Step};
+use run_core::RunCore;
 use stage_bodies::Job;
 use std::alloc::{AllocError, Global};
 use told_text::Told;
@@ -47,8 +45,7 @@ pub fn run_case(told: &mut Told, case: &Case) -> Result<(), AllocError> {
     }
 }
 
-fn run_acts(told: &mut Told, case: &Case, mut core: Core) -> Result<(), AllocError>
-    requires stands { Stands core }
+fn run_acts(told: &mut Told, case: &Case, mut core: RunCore) -> Result<(), AllocError>
 {
     let control = Some(lines_of(told.alloc, case)?);
     let mut beside = Beside { out: None, control };
@@ -93,12 +90,10 @@ fn source_act(word: &str) -> SourceAct {
 fn act_on(
     told: &mut Told,
     case: &Case,
-    core: &mut Core,
+    core: &mut RunCore,
     beside: &mut Beside,
     act: &str,
 ) -> Result<(), AllocError>
-    requires stands { Stands core.old }
-    ensures stands { Stands core.new }
 {
     let (word, rest) = halves(act);
     if word == "bring" {
@@ -127,12 +122,10 @@ fn moves_in(text: &str) -> u64 {
 
 /// Reads the control source so often, as long as the pipeline goes on.
 fn read_often(
-    core: &mut Core,
+    core: &mut RunCore,
     control: &mut Option<LineSource<MemSource>>,
     readings: u64,
 ) -> Result<(), AllocError>
-    requires stands { Stands core.old }
-    ensures stands { Stands core.new }
 {
     for _ in 0..readings {
         read_once(core, control)?;
@@ -140,11 +133,9 @@ fn read_often(
     Ok(())
 }
 
-fn read_once(core: &mut Core, control: &mut Option<LineSource<MemSource>>) -> Result<(), AllocError>
-    requires stands { Stands core.old }
-    ensures stands { Stands core.new }
+fn read_once(core: &mut RunCore, control: &mut Option<LineSource<MemSource>>) -> Result<(), AllocError>
 {
-    if is_halted(core) {
+    if core.is_halted() {
         return Ok(());
     }
     read_control(core, control)
@@ -190,9 +181,7 @@ fn late_in(rest: &str) -> Step {
 }
 
 /// Makes the step where it may come.
-fn force(told: &mut Told, core: &mut Core, step: Step, act: &str) -> Result<(), AllocError>
-    requires stands { Stands core.old }
-    ensures stands { Stands core.new }
+fn force(told: &mut Told, core: &mut RunCore, step: Step, act: &str) -> Result<(), AllocError>
 {
     if try_step(told.alloc, core, step)? {
         return Ok(());

@@ -31,8 +31,8 @@ begin-requires-clause-legal c =
     let is : c.core.inside.state ≡ core = c.core.view_is in
     rw is (subst (λ (o : Order). allows core.topology core.journal.steps (step_for (controls core.journal.steps + 1) o) ≡ true) c.in-Drain.is (ordered (goal.at.begin-requires-clause-legal c).After-order_of (subst Stands is c.core.invariant)))
 
-pub overflow_add-core : goal.overflow_add-core
-overflow_add-core c =
+pub overflow_add-number : goal.overflow_add-number
+overflow_add-number c =
     let core = c.core.inside.state in
     let same = ap (λ (t : Totals). t.controls) c.core.invariant.holds.fields.totals in
     omega (arith, same, controls_law core.topology core.journal.steps c.core.invariant.holds.legal)

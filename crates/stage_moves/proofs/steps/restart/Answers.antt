@@ -18,7 +18,7 @@ legal g c =
     let h = c.args.core.now.journal.steps in
     let stands = c.stands.ensures in
     let e = c.in_ok-own_step.ensures in
-    legal_then {E = Unit {0}} t c.own_step.new.core.topology h c.own_step.new.core.journal.steps (Restart c.args.stage) (Ok tt) stands.holds.legal (subst (IsLegalMove t h) c.requires.first (move_law t h stands.holds.legal stands.unowed)) e.topology e.appended tt
+    legal_then {T = Unit {0}} {E = Unit {0}} t c.own_step.new.core.topology h c.own_step.new.core.journal.steps (Restart c.args.stage) (Ok (tt {0})) stands.holds.legal (subst (IsLegalMove t h) c.requires.first (move_law t h stands.holds.legal stands.unowed)) e.topology e.appended (tt {0})
 
 pub own_step-requires-clause-legal : goal.own_step-requires-clause-legal
 own_step-requires-clause-legal g c =
