@@ -7,7 +7,6 @@
 //! `late S SLOT INCARNATION` are steps by hand. `read N` reads N control lines.
 //! `kills S FROM TO TEXTS` and `drains ..` are runs of their own (`kills.rt`). The other acts tell (`tell.rt`).
 
-
 use super::case::{Case, halves, number, small};
 use super::drive::{MOVES, bring, core_of, drive, try_step};
 use super::kills::tell_kills;
@@ -45,8 +44,7 @@ pub fn run_case(told: &mut Told, case: &Case) -> Result<(), AllocError> {
     }
 }
 
-fn run_acts(told: &mut Told, case: &Case, mut core: RunCore) -> Result<(), AllocError>
-{
+fn run_acts(told: &mut Told, case: &Case, mut core: RunCore) -> Result<(), AllocError> {
     let control = Some(lines_of(told.alloc, case)?);
     let mut beside = Beside { out: None, control };
     for act in case.acts.as_str().lines() {
@@ -93,8 +91,7 @@ fn act_on(
     core: &mut RunCore,
     beside: &mut Beside,
     act: &str,
-) -> Result<(), AllocError>
-{
+) -> Result<(), AllocError> {
     let (word, rest) = halves(act);
     if word == "bring" {
         bring(told, core, &mut beside.out, rest)
@@ -125,16 +122,17 @@ fn read_often(
     core: &mut RunCore,
     control: &mut Option<LineSource<MemSource>>,
     readings: u64,
-) -> Result<(), AllocError>
-{
+) -> Result<(), AllocError> {
     for _ in 0..readings {
         read_once(core, control)?;
     }
     Ok(())
 }
 
-fn read_once(core: &mut RunCore, control: &mut Option<LineSource<MemSource>>) -> Result<(), AllocError>
-{
+fn read_once(
+    core: &mut RunCore,
+    control: &mut Option<LineSource<MemSource>>,
+) -> Result<(), AllocError> {
     if core.is_halted() {
         return Ok(());
     }
@@ -181,8 +179,7 @@ fn late_in(rest: &str) -> Step {
 }
 
 /// Makes the step where it may come.
-fn force(told: &mut Told, core: &mut RunCore, step: Step, act: &str) -> Result<(), AllocError>
-{
+fn force(told: &mut Told, core: &mut RunCore, step: Step, act: &str) -> Result<(), AllocError> {
     if try_step(told.alloc, core, step)? {
         return Ok(());
     }

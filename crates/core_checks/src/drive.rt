@@ -33,15 +33,18 @@ pub const MOVES: u64 = 200;
 const NAP: u64 = 1000;
 
 /// A core without a step, or none where the file or the limits are refused.
-pub fn core_of(alloc: Global, case: &Case) -> Result<Option<RunCore>, AllocError>
-{
+pub fn core_of(alloc: Global, case: &Case) -> Result<Option<RunCore>, AllocError> {
     match read_topology(alloc, case.file.as_bytes()) {
         Ok(topology) => limited_core(alloc, topology, case.limits.as_str()),
         Err(_) => Ok(None),
     }
 }
 
-fn limited_core(alloc: Global, topology: Topology, limits: &str) -> Result<Option<RunCore>, AllocError>
+fn limited_core(
+    alloc: Global,
+    topology: Topology,
+    limits: &str,
+) -> Result<Option<RunCore>, AllocError>
     requires { IsSound topology }
 {
     match with_limits(topology, limits)? {
@@ -67,8 +70,7 @@ pub fn drive(
     out: &mut Option<Job>,
     texts: Option<&str>,
     moves: u64,
-) -> Result<(), AllocError>
-{
+) -> Result<(), AllocError> {
     for _ in 0..moves {
         let text = text_now(core, texts);
         move_on(told, core, out, text)?;
@@ -113,8 +115,7 @@ pub fn bring(
     core: &mut RunCore,
     out: &mut Option<Job>,
     text: &str,
-) -> Result<(), AllocError>
-{
+) -> Result<(), AllocError> {
     drive_to_fetch(told, core, out)?;
     if !is_fetch(out) {
         told.add("no fetch for: ");
@@ -125,8 +126,11 @@ pub fn bring(
     move_on(told, core, out, Some(text))
 }
 
-fn drive_to_fetch(told: &mut Told, core: &mut RunCore, out: &mut Option<Job>) -> Result<(), AllocError>
-{
+fn drive_to_fetch(
+    told: &mut Told,
+    core: &mut RunCore,
+    out: &mut Option<Job>,
+) -> Result<(), AllocError> {
     for _ in 0..MOVES {
         move_on(told, core, out, None)?;
     }
@@ -147,8 +151,7 @@ fn move_on(
     core: &mut RunCore,
     out: &mut Option<Job>,
     text: Option<&str>,
-) -> Result<(), AllocError>
-{
+) -> Result<(), AllocError> {
     if text.is_none() && is_fetch(out) {
         return Ok(());
     }
@@ -162,8 +165,7 @@ fn move_on(
 }
 
 /// Makes the move that comes next, and gives out the job that it begins. A child stays out.
-fn go_on(core: &mut RunCore) -> Result<Option<Job>, AllocError>
-{
+fn go_on(core: &mut RunCore) -> Result<Option<Job>, AllocError> {
     match next(core) {
         Move::Step(step) => {
             make(core, step)?;
@@ -234,8 +236,7 @@ fn nap(core: &mut RunCore) -> Result<(), AllocError>
 }
 
 /// Brings the job's answer home, late where its incarnation was killed.
-fn come_home(told: &mut Told, core: &mut RunCore, job: Job, text: &str) -> Result<(), AllocError>
-{
+fn come_home(told: &mut Told, core: &mut RunCore, job: Job, text: &str) -> Result<(), AllocError> {
     let Job {
         post,
         incarnation,
@@ -255,14 +256,12 @@ fn come_home(told: &mut Told, core: &mut RunCore, job: Job, text: &str) -> Resul
 }
 
 /// Whether the incarnation that the job left from is live.
-fn is_in_time(core: &RunCore, answer: &Answer) -> bool
-{
+fn is_in_time(core: &RunCore, answer: &Answer) -> bool {
     core.is_live(answer.post.stage) && core.incarnation(answer.post.stage) == answer.incarnation
 }
 
 /// Records the answer, where it may come.
-fn record(told: &mut Told, core: &mut RunCore, answer: Answer) -> Result<(), AllocError>
-{
+fn record(told: &mut Told, core: &mut RunCore, answer: Answer) -> Result<(), AllocError> {
     let step = step_of(answer.post, &answer.outcome)?;
     if may_come(told.alloc, core, &step)? {
         record_answer(core, answer)?;
@@ -274,8 +273,7 @@ fn record(told: &mut Told, core: &mut RunCore, answer: Answer) -> Result<(), All
 }
 
 /// Records what of the answer is late.
-fn come_late(told: &mut Told, core: &mut RunCore, answer: Answer) -> Result<(), AllocError>
-{
+fn come_late(told: &mut Told, core: &mut RunCore, answer: Answer) -> Result<(), AllocError> {
     let Answer {
         post,
         incarnation,
@@ -296,8 +294,7 @@ fn come_late(told: &mut Told, core: &mut RunCore, answer: Answer) -> Result<(), 
 }
 
 /// Makes the step where it may come, and says whether it could. It is no begin of a job, and no answer in time.
-pub fn try_step(alloc: Global, core: &mut RunCore, step: Step) -> Result<bool, AllocError>
-{
+pub fn try_step(alloc: Global, core: &mut RunCore, step: Step) -> Result<bool, AllocError> {
     let may = may_come(alloc, core, &step)?;
     if may {
         apply(core, step)?;

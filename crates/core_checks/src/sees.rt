@@ -5,15 +5,13 @@
 //! generation that is live; `place=MESSAGE`, whether it has one; and the counts `now`, `accepted`, `places`, `steps`,
 //! `controls`, and `halted`.
 
-
 use super::case::{item, small, stage};
 use pipe_types::numbers::{MsgNo, Post, StageNo, SubNo};
 use run_core::RunCore;
 use std::alloc::AllocError;
 use told_text::Told;
 
-pub fn see(told: &mut Told, core: &RunCore, asks: &str) -> Result<(), AllocError>
-{
+pub fn see(told: &mut Told, core: &RunCore, asks: &str) -> Result<(), AllocError> {
     for ask in asks.split_whitespace() {
         let (word, rest) = ask.split_once('=').unwrap_or((ask, ""));
         answer(told, core, word, rest)?;
@@ -22,8 +20,7 @@ pub fn see(told: &mut Told, core: &RunCore, asks: &str) -> Result<(), AllocError
     Ok(())
 }
 
-fn answer(told: &mut Told, core: &RunCore, word: &str, rest: &str) -> Result<(), AllocError>
-{
+fn answer(told: &mut Told, core: &RunCore, word: &str, rest: &str) -> Result<(), AllocError> {
     match word {
         "live" => told.flag(core.is_live(stage(rest))),
         "ready" => told.flag(is_ready(core, stage(rest))),
@@ -35,8 +32,7 @@ fn answer(told: &mut Told, core: &RunCore, word: &str, rest: &str) -> Result<(),
     Ok(())
 }
 
-fn count(told: &mut Told, core: &RunCore, word: &str) -> Result<(), AllocError>
-{
+fn count(told: &mut Told, core: &RunCore, word: &str) -> Result<(), AllocError> {
     match word {
         "now" => told.count(core.now()),
         "accepted" => told.count(u64::from(core.state.accepted())),
@@ -50,8 +46,7 @@ fn count(told: &mut Told, core: &RunCore, word: &str) -> Result<(), AllocError>
 }
 
 /// Whether the stage is live in its first incarnation, with no job out.
-fn is_ready(core: &RunCore, stage: StageNo) -> bool
-{
+fn is_ready(core: &RunCore, stage: StageNo) -> bool {
     let is_first = core.incarnation(stage) == 1;
     let is_idle = !core.is_out(Post { stage, slot: 0 });
     core.is_live(stage) && is_first && is_idle

@@ -6,7 +6,6 @@
 //! incarnation of each stage, with `-` where it is dead. `see ASKS` tells what the core says of itself (`sees.rt`), and
 //! `past WORDS` what the slow machine makes of steps by hand (`pasts.rt`).
 
-
 use super::case::{number, small};
 use super::drive::next;
 use super::judge::replayed;
@@ -22,8 +21,7 @@ use std::alloc::AllocError;
 use told_text::Told;
 
 /// Tells what the words ask for.
-pub fn tell(told: &mut Told, core: &RunCore, word: &str, rest: &str) -> Result<(), AllocError>
-{
+pub fn tell(told: &mut Told, core: &RunCore, word: &str, rest: &str) -> Result<(), AllocError> {
     if word == "journal" {
         tell_tail(told, core, u64::MAX)
     } else if word == "tail" {
@@ -76,8 +74,7 @@ fn lines_in(text: &str) -> u64 {
     count
 }
 
-fn named(core: &RunCore) -> &'static str
-{
+fn named(core: &RunCore) -> &'static str {
     match next(core) {
         Move::Step(_) => "a step",
         Move::Job(_) => "a job",
@@ -89,8 +86,7 @@ fn named(core: &RunCore) -> &'static str
 }
 
 /// What the slow machine says.
-pub fn tell_verdict(told: &mut Told, core: &RunCore, stage: StageNo) -> Result<(), AllocError>
-{
+pub fn tell_verdict(told: &mut Told, core: &RunCore, stage: StageNo) -> Result<(), AllocError> {
     match replayed(told.alloc, core)? {
         Some(state) => tell_state(told, core, stage, &state),
         None => {
@@ -105,8 +101,7 @@ fn tell_state(
     core: &RunCore,
     stage: StageNo,
     state: &PlainState,
-) -> Result<(), AllocError>
-{
+) -> Result<(), AllocError> {
     let seen = core.state.places()?;
     let places = state.places.as_slice();
     told.add(named(core));

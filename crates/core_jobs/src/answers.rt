@@ -70,7 +70,12 @@ fn reply(core: &mut RunCore, stage: StageNo, replies: ReplyList) -> Result<(), A
     let_go(answer(&mut core.state, stage, replies))
 }
 
-fn end_batch(core: &mut RunCore, stage: StageNo, bytes: u64, end: BatchEnd) -> Result<(), AllocError>
+fn end_batch(
+    core: &mut RunCore,
+    stage: StageNo,
+    bytes: u64,
+    end: BatchEnd,
+) -> Result<(), AllocError>
     requires legal { IsTrue (allows core.old.topology core.old.journal.steps (Wrote stage bytes end)) }
     ensures ok { IsOk result }
     ensures appended { core.new.journal.steps ≡ and_kill (is_crashed_end end) stage (Wrote stage bytes end ∷ core.old.journal.steps) }

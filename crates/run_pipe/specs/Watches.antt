@@ -35,20 +35,20 @@ pub record HasSeen (fits : Topology → Type 0) (stands : History → Type 0) (f
 
 -- the journal is legal for a topology that it suits, with the log of its steps; it knows a part of it, and has not failed
 pub record MayBeShown (suits : Topology → Type 0) (knows : History → Type 0) (failed : Bool) (journal : Recorded) : Type 0 where
-  pub suits : (topology : Topology) × suits topology × (is_legal topology journal.steps ≡ true) × IsLog topology journal.steps journal.acked.rows
+  pub fit : (topology : Topology) × suits topology × (is_legal topology journal.steps ≡ true) × IsLog topology journal.steps journal.acked.rows
   pub part : (earlier : History) × knows earlier × BeginsWith journal.steps earlier
   pub unfailed : failed ≡ false
 
 -- it suits what it suited; it knows all of it, or a part where it failed or memory was wanting; and it says that it failed where it did
 pub record IsShown (suits suited : Topology → Type 0) (knows : History → Type 0) (old new : WatchSeen) (end : WatchEnd) (steps : History) : Type 0 where
-  pub suits : (topology : Topology) → suits topology → suited topology
-  pub knows : StandsOn end knows steps
+  pub fit : (topology : Topology) → suits topology → suited topology
+  pub seen : StandsOn end knows steps
   pub failed : new.failed ≡ is_failure end
   pub kept : KeepsWatch old new
 
 -- it suits the topology and knows a part of the journal, and that it has failed is known
 pub record IsBehind (suits : Topology → Type 0) (knows : History → Type 0) (has_failed failed : Bool) (topology : Topology) (steps : History) : Type 0 where
-  pub suits : suits topology
+  pub fit : suits topology
   pub part : (earlier : History) × knows earlier × BeginsWith steps earlier
   pub known : has_failed ≡ failed
 

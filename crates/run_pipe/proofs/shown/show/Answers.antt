@@ -8,7 +8,7 @@ show-requires g c =
     let b = c.requires.behind in
     record {
       may = record {
-        suits = (c.args.core.now.topology, b.suits, rw c.journal.ensures c.stands.ensures.holds.legal, rw c.journal.ensures c.stands.ensures.holds.log.rows);
+        fit = (c.args.core.now.topology, b.fit, rw c.journal.ensures c.stands.ensures.holds.legal, rw c.journal.ensures c.stands.ensures.holds.log.rows);
         part = rw c.journal.ensures b.part;
         unfailed = sym b.known ∙ c.if-has_failed.false;
       };
@@ -20,7 +20,7 @@ returns-then-has_failed-clause-seen g c =
     let w = c.args.watch.now in
     let b = c.requires.behind in
     record {
-      seen = seen_before (d.suits w) (d.knows w) (d.sight w).failed c.args.core.now.topology c.args.core.now.journal.steps _ (sym b.known ∙ c.if-has_failed.true) b.suits b.part;
+      seen = seen_before (d.suits w) (d.knows w) (d.sight w).failed c.args.core.now.topology c.args.core.now.journal.steps _ (sym b.known ∙ c.if-has_failed.true) b.fit b.part;
       known = b.known;
     }
 
@@ -35,7 +35,7 @@ returns-in-Done-clause-seen g c =
     let b = c.requires.behind in
     let s = c.in-Done.ensures.shown in
     record {
-      seen = seen_all (d.suits w) (d.knows w) (d.sight w).failed t c.args.core.now.journal.steps _ (s.suits t b.suits) c.journal.result.now.steps (ap (λ (j : Recorded). j.steps) c.journal.ensures) s.knows;
+      seen = seen_all (d.suits w) (d.knows w) (d.sight w).failed t c.args.core.now.journal.steps _ (s.fit t b.fit) c.journal.result.now.steps (ap (λ (j : Recorded). j.steps) c.journal.ensures) s.seen;
       known = c.if-has_failed.false ∙ sym s.failed;
     }
 
@@ -49,7 +49,7 @@ returns-in-Failed-clause-seen g c =
     let t = c.args.core.now.topology in
     let s = c.in-Failed.ensures.shown in
     record {
-      seen = seen_part (d.suits w) (d.knows w) (d.sight w).failed t c.args.core.now.journal.steps _ (λ whole m. let x : true ≡ false = sym s.failed ∙ whole in cc) (s.suits t c.requires.behind.suits) c.journal.result.now.steps (ap (λ (j : Recorded). j.steps) c.journal.ensures) s.knows;
+      seen = seen_part (d.suits w) (d.knows w) (d.sight w).failed t c.args.core.now.journal.steps _ (λ whole m. let x : true ≡ false = sym s.failed ∙ whole in cc) (s.fit t c.requires.behind.fit) c.journal.result.now.steps (ap (λ (j : Recorded). j.steps) c.journal.ensures) s.seen;
       known = sym s.failed;
     }
 
@@ -63,7 +63,7 @@ returns-in-OutOfMemory-clause-seen g c =
     let t = c.args.core.now.topology in
     let s = c.in-OutOfMemory.ensures.shown in
     record {
-      seen = seen_part (d.suits w) (d.knows w) (d.sight w).failed t c.args.core.now.journal.steps _ (λ whole m. let x : false ≡ true = m in cc) (s.suits t c.requires.behind.suits) c.journal.result.now.steps (ap (λ (j : Recorded). j.steps) c.journal.ensures) s.knows;
+      seen = seen_part (d.suits w) (d.knows w) (d.sight w).failed t c.args.core.now.journal.steps _ (λ whole m. let x : false ≡ true = m in cc) (s.fit t c.requires.behind.fit) c.journal.result.now.steps (ap (λ (j : Recorded). j.steps) c.journal.ensures) s.seen;
       known = c.if-has_failed.false ∙ sym s.failed;
     }
 

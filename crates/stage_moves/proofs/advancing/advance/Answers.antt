@@ -107,8 +107,10 @@ returns-in_err-read_control-clause-no_more g c =
 
 pub go_on-next-requires : goal.go_on-next-requires
 go_on-next-requires g c =
-    record { ready = subst (λ o. Ready o c.read_control.new.core.journal.steps (body_at g.B.Works.look c.args.bodies.now.items)) (sym (c.read_control.ensures.topology ∙ c.read_clock.ensures.topology))
-    ((line g (goal.at.go_on-next-requires g c).After-read_control).ready (body_at g.B.Works.look c.args.bodies.now.items) (c.read_clock.ensures.waits.ready (body_at g.B.Works.look c.args.bodies.now.items) c.requires.ready)) }
+    record {
+      ready = subst (λ o. Ready o c.read_control.new.core.journal.steps (body_at g.B.Works.look c.args.bodies.now.items)) (sym (c.read_control.ensures.topology ∙ c.read_clock.ensures.topology))
+          ((line g (goal.at.go_on-next-requires g c).After-read_control).ready (body_at g.B.Works.look c.args.bodies.now.items) (c.read_clock.ensures.waits.ready (body_at g.B.Works.look c.args.bodies.now.items) c.requires.ready));
+    }
 
 pub returns-clause-goes : goal.returns-clause-goes
 returns-clause-goes g c =

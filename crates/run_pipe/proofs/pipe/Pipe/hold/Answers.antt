@@ -58,7 +58,7 @@ show-shown-requires g c =
     let h = c.hold-came.ensures.holds in
     record {
       behind = record {
-        suits = subst (λ (t : Topology). d.suits i.watch t) (sym h.topology) w.seen.fit;
+        fit = subst (λ (t : Topology). d.suits i.watch t) (sym h.topology) w.seen.fit;
         part = part_of (d.suits i.watch) (d.knows i.watch) (d.sight i.watch).failed (HasMemory i.end) i.core.topology i.core.journal.steps c.hold-came.new.core.journal.steps w.seen h.adds.begins;
         known = w.known;
       };

@@ -43,7 +43,7 @@ show-requires g c =
     let w = c.self.invariant.watched in
     record {
       behind = record {
-        suits = subst (λ (t : Topology). d.suits i.watch t) (sym c.come_home.ensures.topology) w.seen.fit;
+        fit = subst (λ (t : Topology). d.suits i.watch t) (sym c.come_home.ensures.topology) w.seen.fit;
         part = part_of (d.suits i.watch) (d.knows i.watch) (d.sight i.watch).failed (HasMemory i.end) i.core.topology i.core.journal.steps c.come_home.new.core.journal.steps w.seen c.come_home.ensures.comes.adds.begins;
         known = w.known;
       };
@@ -62,7 +62,7 @@ invariant_of-self g c =
       whole = home_whole g.B.Works.look c.in-Some.home _ n.core.topology n.core.journal.steps (body_at g.B.Works.look n.bodies.items) (length n.bodies.items) (d.sight seen) c.come_home.result whole b (ended g at.In-Some) e.topology e.len (legal g at.After-stands) e.comes c.show.ensures.kept;
       watched = record {
         seen = seen_where (d.suits seen) (d.knows seen) (d.sight seen).failed _ (HasMemory c.self.inside.end) n.core.topology n.core.journal.steps
-          (λ memory. absurd (no_memory g.B.Works.look c.in-Some.home _ n.core.topology n.core.journal.steps (body_at g.B.Works.look n.bodies.items) (length n.bodies.items) (d.sight seen) c.come_home.result whole b (ended g at.In-Some) e.topology e.len (legal g at.After-stands) e.comes c.show.ensures.kept memory)) c.show.ensures.seen.seen;
+            (λ memory. absurd (no_memory g.B.Works.look c.in-Some.home _ n.core.topology n.core.journal.steps (body_at g.B.Works.look n.bodies.items) (length n.bodies.items) (d.sight seen) c.come_home.result whole b (ended g at.In-Some) e.topology e.len (legal g at.After-stands) e.comes c.show.ensures.kept memory)) c.show.ensures.seen.seen;
         known = c.show.ensures.seen.known;
       };
     }
