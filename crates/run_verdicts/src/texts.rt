@@ -27,6 +27,7 @@ pub fn texts_of(alloc: Global, core: &RunCore, shows: Shows) -> Result<Texts, Al
     ensures whole { IfOk result (λ texts. whole_text core.now.journal.steps texts ≡ run_text shows core.now.topology core.now.journal.steps) }
     ensures logged { IfOk result (λ texts. IsLogged texts.acks core.now.journal) }
 {
+    let _ = &core.state;
     let acks = acks_of(alloc, core, shows.acks)?;
     let last = report_of(alloc, core)?;
     Ok(Texts {
