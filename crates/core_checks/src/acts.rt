@@ -7,21 +7,18 @@
 //! `late S SLOT INCARNATION` are steps by hand. `read N` reads N control lines.
 //! `kills S FROM TO TEXTS` and `drains ..` are runs of their own (`kills.rt`). The other acts tell (`tell.rt`).
 
-ghost use Rattle.core_state.specs.Stands.{Stands};
-
 use super::case::{Case, halves, number, small};
 use super::drive::{MOVES, bring, core_of, drive, try_step};
 use super::kills::tell_kills;
 use super::tell::tell;
 use control_lines::read_control;
-use core_rows::jobs::is_halted;
-use core_state::Core;
 use mem_edges::{MemSource, SourceAct, SourceScript};
 use pipe_edges::LineSource;
 use pipe_types::bytes::Bytes;
 use pipe_types::message::Why;
 use pipe_types::numbers::StageNo;
 use pipe_types::step::{DrainCause, LateAnswer, Step};
+use run_core::RunCore;
 use stage_bodies::Job;
 use std::alloc::{AllocError, Global};
 use told_text::Told;
@@ -47,9 +44,7 @@ pub fn run_case(told: &mut Told, case: &Case) -> Result<(), AllocError> {
     }
 }
 
-fn run_acts(told: &mut Told, case: &Case, mut core: Core) -> Result<(), AllocError>
-    requires stands { Stands core }
-{
+fn run_acts(told: &mut Told, case: &Case, mut core: RunCore) -> Result<(), AllocError> {
     let control = Some(lines_of(told.alloc, case)?);
     let mut beside = Beside { out: None, control };
     for act in case.acts.as_str().lines() {
@@ -93,13 +88,10 @@ fn source_act(word: &str) -> SourceAct {
 fn act_on(
     told: &mut Told,
     case: &Case,
-    core: &mut Core,
+    core: &mut RunCore,
     beside: &mut Beside,
     act: &str,
-) -> Result<(), AllocError>
-    requires stands { Stands core.old }
-    ensures stands { Stands core.new }
-{
+) -> Result<(), AllocError> {
     let (word, rest) = halves(act);
     if word == "bring" {
         bring(told, core, &mut beside.out, rest)
@@ -127,24 +119,21 @@ fn moves_in(text: &str) -> u64 {
 
 /// Reads the control source so often, as long as the pipeline goes on.
 fn read_often(
-    core: &mut Core,
+    core: &mut RunCore,
     control: &mut Option<LineSource<MemSource>>,
     readings: u64,
-) -> Result<(), AllocError>
-    requires stands { Stands core.old }
-    ensures stands { Stands core.new }
-{
+) -> Result<(), AllocError> {
     for _ in 0..readings {
         read_once(core, control)?;
     }
     Ok(())
 }
 
-fn read_once(core: &mut Core, control: &mut Option<LineSource<MemSource>>) -> Result<(), AllocError>
-    requires stands { Stands core.old }
-    ensures stands { Stands core.new }
-{
-    if is_halted(core) {
+fn read_once(
+    core: &mut RunCore,
+    control: &mut Option<LineSource<MemSource>>,
+) -> Result<(), AllocError> {
+    if core.is_halted() {
         return Ok(());
     }
     read_control(core, control)
@@ -190,10 +179,7 @@ fn late_in(rest: &str) -> Step {
 }
 
 /// Makes the step where it may come.
-fn force(told: &mut Told, core: &mut Core, step: Step, act: &str) -> Result<(), AllocError>
-    requires stands { Stands core.old }
-    ensures stands { Stands core.new }
-{
+fn force(told: &mut Told, core: &mut RunCore, step: Step, act: &str) -> Result<(), AllocError> {
     if try_step(told.alloc, core, step)? {
         return Ok(());
     }

@@ -1,11 +1,10 @@
 //! The moves of a core, and the jobs that come home between them.
 
-ghost use Rattle.std.specs.Prelude.{◌≡◌, false, IfOk, IfSome, IsTrue};
+ghost use Rattle.std.specs.Prelude.{◌≡◌, false, IsTrue};
 ghost use Rattle.pipe_types.specs.Sound.{IsSound};
 ghost use Rattle.pipe_model.specs.Legal.{allows as allows_by, happened, is_halt};
 ghost use Rattle.move_laws.specs.NextMoves.{IsLegalMove};
 ghost use Rattle.core_moves.specs.{Moves.{seen_as}, declared.moves.Move.TheVariants.{Pause}};
-ghost use Rattle.core_state.specs.Stands.{Stands};
 ghost use Rattle.core_jobs.specs.Steps.{is_own_step};
 
 use super::answers::{is_keyed, late_of, outcome_of, step_of};
@@ -17,12 +16,12 @@ use core_jobs::{begin_job, own_step, record_answer};
 use core_kills::kills::kill;
 use core_lates::lates::late;
 use core_moves::{Move, next_move};
-use core_state::Core;
 use pipe_config::read_topology;
 use pipe_journal::StepView;
 use pipe_types::numbers::Post;
 use pipe_types::step::{LateAnswer, Step};
 use pipe_types::topology::Topology;
+use run_core::RunCore;
 use stage_bodies::{Answer, Job, Work};
 use std::alloc::{AllocError, Global};
 use told_text::Told;
@@ -34,18 +33,19 @@ pub const MOVES: u64 = 200;
 const NAP: u64 = 1000;
 
 /// A core without a step, or none where the file or the limits are refused.
-pub fn core_of(alloc: Global, case: &Case) -> Result<Option<Core>, AllocError>
-    ensures { IfOk result (λ found. IfSome found Stands) }
-{
+pub fn core_of(alloc: Global, case: &Case) -> Result<Option<RunCore>, AllocError> {
     match read_topology(alloc, case.file.as_bytes()) {
         Ok(topology) => limited_core(alloc, topology, case.limits.as_str()),
         Err(_) => Ok(None),
     }
 }
 
-fn limited_core(alloc: Global, topology: Topology, limits: &str) -> Result<Option<Core>, AllocError>
+fn limited_core(
+    alloc: Global,
+    topology: Topology,
+    limits: &str,
+) -> Result<Option<RunCore>, AllocError>
     requires { IsSound topology }
-    ensures { IfOk result (λ found. IfSome found Stands) }
 {
     match with_limits(topology, limits)? {
         Some(topology) => new_core(alloc, topology),
@@ -53,11 +53,10 @@ fn limited_core(alloc: Global, topology: Topology, limits: &str) -> Result<Optio
     }
 }
 
-fn new_core(alloc: Global, topology: Topology) -> Result<Option<Core>, AllocError>
+fn new_core(alloc: Global, topology: Topology) -> Result<Option<RunCore>, AllocError>
     requires { IsSound topology }
-    ensures { IfOk result (λ found. IfSome found Stands) }
 {
-    match Core::new(alloc, topology) {
+    match RunCore::new(alloc, topology) {
         Ok(core) => Ok(Some(core)),
         Err((_, failed)) => Err(failed),
     }
@@ -67,14 +66,11 @@ fn new_core(alloc: Global, topology: Topology) -> Result<Option<Core>, AllocErro
 /// it stays out.
 pub fn drive(
     told: &mut Told,
-    core: &mut Core,
+    core: &mut RunCore,
     out: &mut Option<Job>,
     texts: Option<&str>,
     moves: u64,
-) -> Result<(), AllocError>
-    requires stands { Stands core.old }
-    ensures stands { Stands core.new }
-{
+) -> Result<(), AllocError> {
     for _ in 0..moves {
         let text = text_now(core, texts);
         move_on(told, core, out, text)?;
@@ -83,7 +79,7 @@ pub fn drive(
 }
 
 /// The text that the last fetch brings: behind the last text the source ends.
-fn text_now<'a>(core: &Core, texts: Option<&'a str>) -> Option<&'a str> {
+fn text_now<'a>(core: &RunCore, texts: Option<&'a str>) -> Option<&'a str> {
     match texts {
         Some(texts) => {
             let fetch = count_fetches(core);
@@ -103,7 +99,7 @@ fn text_at(texts: &str, at: usize) -> &str {
 }
 
 /// How many fetches there were.
-fn count_fetches(core: &Core) -> usize {
+fn count_fetches(core: &RunCore) -> usize {
     let mut count: usize = 0;
     for at in 0..core.journal().len() {
         if matches!(core.journal().view(at), StepView::Fetch { .. }) {
@@ -116,13 +112,10 @@ fn count_fetches(core: &Core) -> usize {
 /// Goes on until a fetch is out, which brings the text.
 pub fn bring(
     told: &mut Told,
-    core: &mut Core,
+    core: &mut RunCore,
     out: &mut Option<Job>,
     text: &str,
-) -> Result<(), AllocError>
-    requires stands { Stands core.old }
-    ensures stands { Stands core.new }
-{
+) -> Result<(), AllocError> {
     drive_to_fetch(told, core, out)?;
     if !is_fetch(out) {
         told.add("no fetch for: ");
@@ -133,10 +126,11 @@ pub fn bring(
     move_on(told, core, out, Some(text))
 }
 
-fn drive_to_fetch(told: &mut Told, core: &mut Core, out: &mut Option<Job>) -> Result<(), AllocError>
-    requires stands { Stands core.old }
-    ensures stands { Stands core.new }
-{
+fn drive_to_fetch(
+    told: &mut Told,
+    core: &mut RunCore,
+    out: &mut Option<Job>,
+) -> Result<(), AllocError> {
     for _ in 0..MOVES {
         move_on(told, core, out, None)?;
     }
@@ -154,13 +148,10 @@ fn is_fetch(out: &Option<Job>) -> bool {
 /// Answers the job that is out, or makes the move that comes next. A fetch for which there is no text stays out.
 fn move_on(
     told: &mut Told,
-    core: &mut Core,
+    core: &mut RunCore,
     out: &mut Option<Job>,
     text: Option<&str>,
-) -> Result<(), AllocError>
-    requires stands { Stands core.old }
-    ensures stands { Stands core.new }
-{
+) -> Result<(), AllocError> {
     if text.is_none() && is_fetch(out) {
         return Ok(());
     }
@@ -174,10 +165,7 @@ fn move_on(
 }
 
 /// Makes the move that comes next, and gives out the job that it begins. A child stays out.
-fn go_on(core: &mut Core) -> Result<Option<Job>, AllocError>
-    requires stands { Stands core.old }
-    ensures stands { Stands core.new }
-{
+fn go_on(core: &mut RunCore) -> Result<Option<Job>, AllocError> {
     match next(core) {
         Move::Step(step) => {
             make(core, step)?;
@@ -205,19 +193,16 @@ fn kept(job: Job) -> Option<Job> {
 }
 
 /// The next move, which is legal.
-pub fn next(core: &Core) -> Move
-    requires stands { Stands core.now }
+pub fn next(core: &RunCore) -> Move
     ensures legal { IsLegalMove core.now.topology core.now.journal.steps (seen_as result) }
     ensures going { result ≡ Pause → happened is_halt core.now.journal.steps ≡ false }
 {
-    next_move(core)
+    next_move(&core.state)
 }
 
 /// Makes a step of the pipeline's own.
-fn make(core: &mut Core, step: Step) -> Result<(), AllocError>
-    requires stands { Stands core.old }
+fn make(core: &mut RunCore, step: Step) -> Result<(), AllocError>
     requires legal { IsTrue (allows_by core.old.topology core.old.journal.steps step) }
-    ensures stands { Stands core.new }
 {
     if is_own(&step) {
         own_step(core, step)
@@ -243,20 +228,15 @@ fn is_own(step: &Step) -> bool
 }
 
 /// Puts the clock on.
-fn nap(core: &mut Core) -> Result<(), AllocError>
-    requires stands { Stands core.old }
+fn nap(core: &mut RunCore) -> Result<(), AllocError>
     requires going { happened is_halt core.old.journal.steps ≡ false }
-    ensures stands { Stands core.new }
 {
     let now = core.now().saturating_add(NAP);
-    tick(core, now)
+    tick(&mut core.state, now)
 }
 
 /// Brings the job's answer home, late where its incarnation was killed.
-fn come_home(told: &mut Told, core: &mut Core, job: Job, text: &str) -> Result<(), AllocError>
-    requires stands { Stands core.old }
-    ensures stands { Stands core.new }
-{
+fn come_home(told: &mut Told, core: &mut RunCore, job: Job, text: &str) -> Result<(), AllocError> {
     let Job {
         post,
         incarnation,
@@ -276,17 +256,12 @@ fn come_home(told: &mut Told, core: &mut Core, job: Job, text: &str) -> Result<(
 }
 
 /// Whether the incarnation that the job left from is live.
-fn is_in_time(core: &Core, answer: &Answer) -> bool
-    requires stands { Stands core.now }
-{
+fn is_in_time(core: &RunCore, answer: &Answer) -> bool {
     core.is_live(answer.post.stage) && core.incarnation(answer.post.stage) == answer.incarnation
 }
 
 /// Records the answer, where it may come.
-fn record(told: &mut Told, core: &mut Core, answer: Answer) -> Result<(), AllocError>
-    requires stands { Stands core.old }
-    ensures stands { Stands core.new }
-{
+fn record(told: &mut Told, core: &mut RunCore, answer: Answer) -> Result<(), AllocError> {
     let step = step_of(answer.post, &answer.outcome)?;
     if may_come(told.alloc, core, &step)? {
         record_answer(core, answer)?;
@@ -298,10 +273,7 @@ fn record(told: &mut Told, core: &mut Core, answer: Answer) -> Result<(), AllocE
 }
 
 /// Records what of the answer is late.
-fn come_late(told: &mut Told, core: &mut Core, answer: Answer) -> Result<(), AllocError>
-    requires stands { Stands core.old }
-    ensures stands { Stands core.new }
-{
+fn come_late(told: &mut Told, core: &mut RunCore, answer: Answer) -> Result<(), AllocError> {
     let Answer {
         post,
         incarnation,
@@ -322,10 +294,7 @@ fn come_late(told: &mut Told, core: &mut Core, answer: Answer) -> Result<(), All
 }
 
 /// Makes the step where it may come, and says whether it could. It is no begin of a job, and no answer in time.
-pub fn try_step(alloc: Global, core: &mut Core, step: Step) -> Result<bool, AllocError>
-    requires stands { Stands core.old }
-    ensures stands { Stands core.new }
-{
+pub fn try_step(alloc: Global, core: &mut RunCore, step: Step) -> Result<bool, AllocError> {
     let may = may_come(alloc, core, &step)?;
     if may {
         apply(core, step)?;
@@ -333,14 +302,12 @@ pub fn try_step(alloc: Global, core: &mut Core, step: Step) -> Result<bool, Allo
     Ok(may)
 }
 
-fn apply(core: &mut Core, step: Step) -> Result<(), AllocError>
-    requires stands { Stands core.old }
+fn apply(core: &mut RunCore, step: Step) -> Result<(), AllocError>
     requires legal { IsTrue (allows_by core.old.topology core.old.journal.steps step) }
-    ensures stands { Stands core.new }
 {
     match step {
-        Step::Kill { stage, why } => kill(core, stage, why),
-        Step::Tick { now } => tick(core, now),
+        Step::Kill { stage, why } => kill(&mut core.state, stage, why),
+        Step::Tick { now } => tick(&mut core.state, now),
         Step::Late {
             stage,
             slot,
@@ -352,16 +319,14 @@ fn apply(core: &mut Core, step: Step) -> Result<(), AllocError>
 }
 
 fn end_late(
-    core: &mut Core,
+    core: &mut RunCore,
     post: Post,
     incarnation: u32,
     answer: LateAnswer,
 ) -> Result<(), AllocError>
-    requires stands { Stands core.old }
     requires legal { IsTrue (allows_by core.old.topology core.old.journal.steps (Step.Late post.stage post.slot incarnation answer)) }
-    ensures stands { Stands core.new }
 {
-    match late(core, post, incarnation, answer) {
+    match late(&mut core.state, post, incarnation, answer) {
         Ok(()) => Ok(()),
         Err((_, failed)) => Err(failed),
     }

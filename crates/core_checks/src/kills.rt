@@ -4,15 +4,13 @@
 //! control line, and the run goes on until it is drained; its fetches bring the texts. With `drains` the drain begins behind
 //! the kill, where it may. An answer that was out comes late. Each run is told by a line.
 
-ghost use Rattle.core_state.specs.Stands.{Stands};
-
 use super::case::{Case, halves, number, small};
 use super::drive::{core_of, drive, try_step};
 use super::tell::tell_verdict;
-use core_state::Core;
 use pipe_types::message::Why;
 use pipe_types::numbers::StageNo;
 use pipe_types::step::{DrainCause, Step};
+use run_core::RunCore;
 use std::alloc::AllocError;
 use told_text::Told;
 
@@ -65,18 +63,13 @@ fn tell_kill(told: &mut Told, case: &Case, kill: Kill<'_>) -> Result<(), AllocEr
     }
 }
 
-fn run_kill(told: &mut Told, mut core: Core, kill: Kill<'_>) -> Result<(), AllocError>
-    requires stands { Stands core }
-{
+fn run_kill(told: &mut Told, mut core: RunCore, kill: Kill<'_>) -> Result<(), AllocError> {
     go_through(told, &mut core, kill)?;
     tell_verdict(told, &core, kill.stage)
 }
 
 /// Drives the core up to the kill and from there to its end.
-fn go_through(told: &mut Told, core: &mut Core, kill: Kill<'_>) -> Result<(), AllocError>
-    requires stands { Stands core.old }
-    ensures stands { Stands core.new }
-{
+fn go_through(told: &mut Told, core: &mut RunCore, kill: Kill<'_>) -> Result<(), AllocError> {
     let mut out = None;
     drive(told, core, &mut out, Some(kill.texts), kill.moves)?;
     stop(told, core, kill)?;
@@ -84,10 +77,7 @@ fn go_through(told: &mut Told, core: &mut Core, kill: Kill<'_>) -> Result<(), Al
 }
 
 /// Kills the stage, and begins the drain where it is to begin and may.
-fn stop(told: &mut Told, core: &mut Core, kill: Kill<'_>) -> Result<(), AllocError>
-    requires stands { Stands core.old }
-    ensures stands { Stands core.new }
-{
+fn stop(told: &mut Told, core: &mut RunCore, kill: Kill<'_>) -> Result<(), AllocError> {
     let stage = kill.stage;
     let why = Why::Kill;
     if !try_step(told.alloc, core, Step::Kill { stage, why })? {

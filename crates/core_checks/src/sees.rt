@@ -5,17 +5,13 @@
 //! generation that is live; `place=MESSAGE`, whether it has one; and the counts `now`, `accepted`, `places`, `steps`,
 //! `controls`, and `halted`.
 
-ghost use Rattle.core_state.specs.Stands.{Stands};
-
 use super::case::{item, small, stage};
-use core_state::Core;
 use pipe_types::numbers::{MsgNo, Post, StageNo, SubNo};
+use run_core::RunCore;
 use std::alloc::AllocError;
 use told_text::Told;
 
-pub fn see(told: &mut Told, core: &Core, asks: &str) -> Result<(), AllocError>
-    requires stands { Stands core.now }
-{
+pub fn see(told: &mut Told, core: &RunCore, asks: &str) -> Result<(), AllocError> {
     for ask in asks.split_whitespace() {
         let (word, rest) = ask.split_once('=').unwrap_or((ask, ""));
         answer(told, core, word, rest)?;
@@ -24,48 +20,42 @@ pub fn see(told: &mut Told, core: &Core, asks: &str) -> Result<(), AllocError>
     Ok(())
 }
 
-fn answer(told: &mut Told, core: &Core, word: &str, rest: &str) -> Result<(), AllocError>
-    requires stands { Stands core.now }
-{
+fn answer(told: &mut Told, core: &RunCore, word: &str, rest: &str) -> Result<(), AllocError> {
     match word {
         "live" => told.flag(core.is_live(stage(rest))),
         "ready" => told.flag(is_ready(core, stage(rest))),
         "due" => told.count(first_due(core, stage(item(rest, 0)), stage(item(rest, 1)))),
         "sub" => tell_sub(told, core, stage(item(rest, 0)), stage(item(rest, 1))),
-        "place" => told.flag(core.place(MsgNo(u32::from(small(rest)))).is_some()),
+        "place" => told.flag(core.state.place(MsgNo(u32::from(small(rest)))).is_some()),
         _ => return count(told, core, word),
     }
     Ok(())
 }
 
-fn count(told: &mut Told, core: &Core, word: &str) -> Result<(), AllocError>
-    requires stands { Stands core.now }
-{
+fn count(told: &mut Told, core: &RunCore, word: &str) -> Result<(), AllocError> {
     match word {
         "now" => told.count(core.now()),
-        "accepted" => told.count(u64::from(core.accepted())),
-        "places" => told.count(core.places()?.as_slice().len() as u64),
+        "accepted" => told.count(u64::from(core.state.accepted())),
+        "places" => told.count(core.state.places()?.as_slice().len() as u64),
         "steps" => told.count(core.journal().len()),
-        "controls" => told.count(u64::from(core.totals.controls)),
-        "halted" => told.flag(core.totals.halted),
+        "controls" => told.count(u64::from(core.state.totals.controls)),
+        "halted" => told.flag(core.state.totals.halted),
         _ => told.add(" no ask"),
     }
     Ok(())
 }
 
 /// Whether the stage is live in its first incarnation, with no job out.
-fn is_ready(core: &Core, stage: StageNo) -> bool
-    requires { Stands core.now }
-{
+fn is_ready(core: &RunCore, stage: StageNo) -> bool {
     let is_first = core.incarnation(stage) == 1;
     let is_idle = !core.is_out(Post { stage, slot: 0 });
     core.is_live(stage) && is_first && is_idle
 }
 
 /// What is due on the pair's first subscription.
-fn first_due(core: &Core, consumer: StageNo, producer: StageNo) -> u64 {
+fn first_due(core: &RunCore, consumer: StageNo, producer: StageNo) -> u64 {
     u64::from(
-        core.subs.due(SubNo {
+        core.state.subs.due(SubNo {
             consumer,
             producer,
             generation: 1,
@@ -74,8 +64,8 @@ fn first_due(core: &Core, consumer: StageNo, producer: StageNo) -> u64 {
 }
 
 /// The generation of the pair's live subscription.
-fn tell_sub(told: &mut Told, core: &Core, consumer: StageNo, producer: StageNo) {
-    match core.subs.live_of(consumer, producer) {
+fn tell_sub(told: &mut Told, core: &RunCore, consumer: StageNo, producer: StageNo) {
+    match core.state.subs.live_of(consumer, producer) {
         Some(sub) => told.count(u64::from(sub.generation)),
         None => told.add(" none"),
     }

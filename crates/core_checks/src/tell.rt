@@ -6,26 +6,22 @@
 //! incarnation of each stage, with `-` where it is dead. `see ASKS` tells what the core says of itself (`sees.rt`), and
 //! `past WORDS` what the slow machine makes of steps by hand (`pasts.rt`).
 
-ghost use Rattle.core_state.specs.Stands.{Stands};
-
 use super::case::{number, small};
 use super::drive::next;
 use super::judge::replayed;
 use super::pasts::tell_past;
 use super::sees::see;
 use core_moves::Move;
-use core_state::Core;
 use journal_texts::lines::journal_text;
 use pipe_types::message::{Loss, Outcome, Place, Why};
 use pipe_types::numbers::StageNo;
 use pipe_types::state::{Life, PlaceRow, PlainState};
+use run_core::RunCore;
 use std::alloc::AllocError;
 use told_text::Told;
 
 /// Tells what the words ask for.
-pub fn tell(told: &mut Told, core: &Core, word: &str, rest: &str) -> Result<(), AllocError>
-    requires stands { Stands core.now }
-{
+pub fn tell(told: &mut Told, core: &RunCore, word: &str, rest: &str) -> Result<(), AllocError> {
     if word == "journal" {
         tell_tail(told, core, u64::MAX)
     } else if word == "tail" {
@@ -49,7 +45,7 @@ pub fn tell(told: &mut Told, core: &Core, word: &str, rest: &str) -> Result<(), 
 }
 
 /// So many last lines of the journal's text.
-fn tell_tail(told: &mut Told, core: &Core, many: u64) -> Result<(), AllocError> {
+fn tell_tail(told: &mut Told, core: &RunCore, many: u64) -> Result<(), AllocError> {
     let text = journal_text(told.alloc, core.journal())?;
     let shown = str::from_utf8(text.as_slice()).unwrap_or("no text");
     add_tail(told, shown, many);
@@ -78,9 +74,7 @@ fn lines_in(text: &str) -> u64 {
     count
 }
 
-fn named(core: &Core) -> &'static str
-    requires stands { Stands core.now }
-{
+fn named(core: &RunCore) -> &'static str {
     match next(core) {
         Move::Step(_) => "a step",
         Move::Job(_) => "a job",
@@ -92,9 +86,7 @@ fn named(core: &Core) -> &'static str
 }
 
 /// What the slow machine says.
-pub fn tell_verdict(told: &mut Told, core: &Core, stage: StageNo) -> Result<(), AllocError>
-    requires stands { Stands core.now }
-{
+pub fn tell_verdict(told: &mut Told, core: &RunCore, stage: StageNo) -> Result<(), AllocError> {
     match replayed(told.alloc, core)? {
         Some(state) => tell_state(told, core, stage, &state),
         None => {
@@ -106,13 +98,11 @@ pub fn tell_verdict(told: &mut Told, core: &Core, stage: StageNo) -> Result<(), 
 
 fn tell_state(
     told: &mut Told,
-    core: &Core,
+    core: &RunCore,
     stage: StageNo,
     state: &PlainState,
-) -> Result<(), AllocError>
-    requires stands { Stands core.now }
-{
-    let seen = core.places()?;
+) -> Result<(), AllocError> {
+    let seen = core.state.places()?;
     let places = state.places.as_slice();
     told.add(named(core));
     told.add(", same places");

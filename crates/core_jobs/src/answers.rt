@@ -3,7 +3,6 @@
 ghost use Rattle.std.specs.Prelude.{◌≡◌, ◌∷◌, ◌≤◌, is_ok, OnOk, OnErr, IsOk, IsTrue};
 ghost use Rattle.pipe_types.specs.declared.step.Step.TheVariants.{Accept, Done, Wrote, ChildEnd};
 ghost use Rattle.pipe_model.specs.{Content.{has_crash}, Legal.{allows}};
-ghost use Rattle.core_state.specs.Stands.{Stands};
 ghost use Rattle.core_accepts.specs.Records.{and_dispatch};
 ghost use Rattle.stage_bodies.specs.Posts.{step_of, is_crashed_end, brings_records};
 ghost use Rattle.core_jobs.specs.Recorded.{and_kill, with_answer};
@@ -13,25 +12,23 @@ use core_accepts::calls::accept;
 use core_batches::writes::wrote;
 use core_calls::sources::{quiet, source_end};
 use core_children::child_end;
-use core_state::Core;
 use core_takes::answers::answer;
 use pipe_types::bytes::BytesList;
 use pipe_types::message::{BatchEnd, Reply, ReplyList};
 use pipe_types::numbers::{Post, StageNo};
+use run_core::RunCore;
 use stage_bodies::{Answer, Outcome};
 use std::alloc::AllocError;
 
 /// Appends the answer to the job of a post, and the step that it owes: behind records the dispatch, and behind the crash of
 /// a processor or a batch processor the kill of its stage. For records and their dispatch memory may be wanting: then nothing is
 /// appended, and they are gone. Every other answer is appended, since its job made the room for it.
-pub fn record_answer(core: &mut Core, answer: Answer) -> Result<(), AllocError>
-    requires stands { Stands core.old }
+pub fn record_answer(core: &mut RunCore, answer: Answer) -> Result<(), AllocError>
     requires legal { IsTrue (allows core.old.topology core.old.journal.steps (step_of answer.post answer.outcome)) }
     ensures appended { OnOk result (core.new.journal.steps ≡ with_answer core.old.topology core.old.journal.steps answer.post answer.outcome) }
     ensures unchanged { OnErr result (core.new.journal.steps ≡ core.old.journal.steps) }
     ensures refused { 1 ≤ answer.post.stage.0 → OnErr result (IsTrue (brings_records answer.outcome)) }
     ensures topology { core.new.topology ≡ core.old.topology }
-    ensures stands { Stands core.new }
 {
     let Answer {
         post: Post { stage, slot },
@@ -40,67 +37,64 @@ pub fn record_answer(core: &mut Core, answer: Answer) -> Result<(), AllocError>
     } = answer;
     match outcome {
         Outcome::Records(records) => bring(core, stage, records),
-        Outcome::NotYet => quiet(core, stage),
-        Outcome::Ended(how) => source_end(core, stage, how),
+        Outcome::NotYet => quiet(&mut core.state, stage),
+        Outcome::Ended(how) => source_end(&mut core.state, stage, how),
         Outcome::Replies(replies) => reply(core, stage, replies),
         Outcome::Wrote(bytes, end) => end_batch(core, stage, bytes, end),
         Outcome::Reply(reply) => end_child(core, stage, slot, reply),
     }
 }
 
-fn bring(core: &mut Core, stage: StageNo, records: BytesList) -> Result<(), AllocError>
-    requires stands { Stands core.old }
+fn bring(core: &mut RunCore, stage: StageNo, records: BytesList) -> Result<(), AllocError>
     requires legal { IsTrue (allows core.old.topology core.old.journal.steps (Accept stage records)) }
     ensures appended { OnOk result (core.new.journal.steps ≡ and_dispatch core.old.topology (Accept stage records ∷ core.old.journal.steps) stage) }
     ensures unchanged { OnErr result (core.new.journal.steps ≡ core.old.journal.steps) }
     ensures topology { core.new.topology ≡ core.old.topology }
-    ensures stands { Stands core.new }
 {
-    match accept(core, stage, records) {
+    match accept(&mut core.state, stage, records) {
         Ok(()) => Ok(()),
         Err((_, failed)) => Err(failed),
     }
 }
 
-fn reply(core: &mut Core, stage: StageNo, replies: ReplyList) -> Result<(), AllocError>
-    requires stands { Stands core.old }
+fn reply(core: &mut RunCore, stage: StageNo, replies: ReplyList) -> Result<(), AllocError>
     requires legal { IsTrue (allows core.old.topology core.old.journal.steps (Done stage replies)) }
     ensures ok { IsOk result }
     ensures appended { core.new.journal.steps ≡ and_kill (has_crash replies) stage (Done stage replies ∷ core.old.journal.steps) }
     ensures topology { core.new.topology ≡ core.old.topology }
-    ensures stands { Stands core.new }
 {
     if any_crashed(replies.as_slice()) {
         crash_chunk(core, stage, replies);
         return Ok(());
     }
-    let_go(answer(core, stage, replies))
+    let_go(answer(&mut core.state, stage, replies))
 }
 
-fn end_batch(core: &mut Core, stage: StageNo, bytes: u64, end: BatchEnd) -> Result<(), AllocError>
-    requires stands { Stands core.old }
+fn end_batch(
+    core: &mut RunCore,
+    stage: StageNo,
+    bytes: u64,
+    end: BatchEnd,
+) -> Result<(), AllocError>
     requires legal { IsTrue (allows core.old.topology core.old.journal.steps (Wrote stage bytes end)) }
     ensures ok { IsOk result }
     ensures appended { core.new.journal.steps ≡ and_kill (is_crashed_end end) stage (Wrote stage bytes end ∷ core.old.journal.steps) }
     ensures topology { core.new.topology ≡ core.old.topology }
-    ensures stands { Stands core.new }
 {
     if has_crashed(&end) {
         crash_batch(core, stage);
         return Ok(());
     }
-    let_go(wrote(core, stage, end, bytes))
+    let_go(wrote(&mut core.state, stage, end, bytes))
 }
 
-fn end_child(core: &mut Core, stage: StageNo, slot: u16, reply: Reply) -> Result<(), AllocError>
-    requires stands { Stands core.old }
+fn end_child(core: &mut RunCore, stage: StageNo, slot: u16, reply: Reply) -> Result<(), AllocError>
     requires legal { IsTrue (allows core.old.topology core.old.journal.steps (ChildEnd stage slot reply)) }
     ensures ok { IsOk result }
     ensures appended { core.new.journal.steps ≡ ChildEnd stage slot reply ∷ core.old.journal.steps }
     ensures topology { core.new.topology ≡ core.old.topology }
-    ensures stands { Stands core.new }
 {
-    let_go(child_end(core, stage, slot, reply))
+    let_go(child_end(&mut core.state, stage, slot, reply))
 }
 
 /// The answer of a call without what it gives back where it is refused.

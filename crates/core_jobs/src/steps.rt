@@ -2,7 +2,6 @@
 
 ghost use Rattle.std.specs.Prelude.{◌≡◌, ◌∷◌, OnOk, OnErr, IsTrue};
 ghost use Rattle.pipe_model.specs.Legal.{allows};
-ghost use Rattle.core_state.specs.Stands.{Stands};
 ghost use Rattle.core_jobs.specs.Steps.{is_own_step};
 
 use core_batches::gathers::gather;
@@ -12,37 +11,35 @@ use core_moves::close;
 use core_moves::drain::begin;
 use core_restarts::restart;
 use core_sends::sending::dispatch;
-use core_state::Core;
 use pipe_types::step::Step;
+use run_core::RunCore;
 use std::alloc::AllocError;
 
 /// Appends the step: an ask, a dispatch, a gather, the close of a batch, a restart, the begin of the drain, or the halt.
-pub fn own_step(core: &mut Core, step: Step) -> Result<(), AllocError>
-    requires stands { Stands core.old }
+pub fn own_step(core: &mut RunCore, step: Step) -> Result<(), AllocError>
     requires legal { IsTrue (allows core.old.topology core.old.journal.steps step) }
     requires own { IsTrue (is_own_step step) }
     ensures appended { OnOk result (core.new.journal.steps ≡ step ∷ core.old.journal.steps) }
     ensures unchanged { OnErr result (core.new.journal.steps ≡ core.old.journal.steps) }
     ensures topology { core.new.topology ≡ core.old.topology }
-    ensures stands { Stands core.new }
 {
     match step {
         Step::Ask { sub, .. } => {
-            ask(core, sub)?;
+            ask(&mut core.state, sub)?;
             Ok(())
         }
-        Step::Dispatch { stage } => dispatch(core, stage),
+        Step::Dispatch { stage } => dispatch(&mut core.state, stage),
         Step::Gather { stage, .. } => {
-            gather(core, stage)?;
+            gather(&mut core.state, stage)?;
             Ok(())
         }
         Step::Close { stage, first, .. } => {
-            close(core, stage, first)?;
+            close(&mut core.state, stage, first)?;
             Ok(())
         }
-        Step::Restart { stage } => restart(core, stage),
-        Step::Drain { cause } => begin(core, cause),
-        Step::Halt => halt(core),
+        Step::Restart { stage } => restart(&mut core.state, stage),
+        Step::Drain { cause } => begin(&mut core.state, cause),
+        Step::Halt => halt(&mut core.state),
         _ => unreachable!(),
     }
 }

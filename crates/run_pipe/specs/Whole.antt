@@ -8,12 +8,10 @@ use Rattle.pipe_model.specs.Legal.{is_legal}
 use Rattle.pipe_model.specs.Posts.{is_out}
 use Rattle.pipe_laws.specs.Followed.{FollowsMoves}
 use Rattle.body_laws.specs.Ready.{Ready}
-use Rattle.core_state.specs.Stands.{Stands}
-use Rattle.core_state.specs.declared.state.Core.{Core}
 use Rattle.run_pipe.specs.Ends.{HasEnded, HasMemory}
 use Rattle.run_pipe.specs.Idle.{IsIdle}
 use Rattle.run_pipe.specs.Seen.{PipeState, away_of}
-use Rattle.run_pipe.specs.Watches.{HasSeen}
+use Rattle.run_pipe.specs.Watches.{IsWatched}
 
 -- its topology is sound and its journal legal, and each step of its own accord was the next move; the bodies at home are ready; it has ended as it says; and a post that is out is
 -- away, and the rows of quiet answers keep to the idle limit, unless memory was wanting
@@ -26,9 +24,7 @@ pub record IsWhole (p : PipeState) : Type 0 where
   pub outs : HasMemory p.end → (q : Post) → is_out p.steps q ≡ true → Contains (away_of p) q
   pub idle : HasMemory p.end → 1 ≤ p.topology.idle_limit → IsIdle p.topology.idle_limit p.steps
 
--- and its core stands, and its watch has seen the journal unless memory was wanting; that the watch has failed is known
-pub record IsPipe (fits : Topology → Type 0) (stood : History → Type 0) (has_failed : Bool) (core : Core) (p : PipeState) : Type 0 where
-  pub stands : Stands core
+-- and its watch has seen the journal unless memory was wanting; that the watch has failed is known
+pub record IsPipe (fits : Topology → Type 0) (stood : History → Type 0) (has_failed : Bool) (p : PipeState) : Type 0 where
   pub whole : IsWhole p
-  pub watched : HasSeen fits stood p.watch.failed (HasMemory p.end) p.topology p.steps
-  pub known : has_failed ≡ p.watch.failed
+  pub watched : IsWatched fits stood has_failed p.watch.failed (HasMemory p.end) p.topology p.steps

@@ -4,11 +4,10 @@ ghost use Rattle.std.specs.Prelude.{◌≡◌, [], None, Some, Err, IfSome, fals
 ghost use Rattle.stage_bodies.specs.Seen.{body_at, line_seen};
 ghost use Rattle.body_laws.specs.Ready.{IsFilled};
 ghost use Rattle.stage_holds.specs.{Keeping.{IsFresh}, Clocks.{clock_seen}};
-ghost use Rattle.run_pipe.specs.{Ends.{HasMemory}, Parts.{state_by}, Runs.{RanToEnd}, Seen.{PipeSeen, state_of, away_of}, Stems.{Stems}, Watches.{HasSeen}, Whole.{IsPipe, IsWhole}};
+ghost use Rattle.run_pipe.specs.{Ends.{HasMemory}, Parts.{state_by}, Runs.{RanToEnd}, Seen.{PipeSeen, state_of, away_of}, Stems.{Stems}, Watches.{IsWatched}, Whole.{IsPipe, IsWhole}};
 
 use crate::ends::RunEnd;
 use crate::shown::Shown;
-use core_state::Core;
 use pipe_edges::{ByteSource, Clock, LineSource};
 use pipe_journal::Journal;
 use pipe_types::numbers::Post;
@@ -20,7 +19,7 @@ use std::marker::Model;
 
 /// A pipeline with the bodies that are at home, its control source, its clock and what is shown its journal.
 pub struct Pipe<B: Works, S: ByteSource, C: Clock, W: Shown> {
-    pub(crate) core: Core,
+    pub(crate) core: RunCore,
     /// By place.
     pub(crate) bodies: Vec<Option<B>>,
     pub(crate) control: Option<LineSource<S>>,
@@ -37,7 +36,7 @@ impl<B: Works, S: ByteSource, C: Clock, W: Shown> Model for Pipe<B, S, C, W> {
 
     ghost view = { λ p. record { topology = p.core.topology; steps = p.core.journal.steps; bodies = map (option_map B.look) p.bodies.items; control = option_map (line_seen S.ByteSource) p.control; clock = clock_seen C.latest C.readings C.pauses p.clock; watch = W.sight p.watch; end = p.end } };
 
-    ghost invariant = { λ p. IsPipe (W.suits p.watch) (W.knows p.watch) p.has_failed p.core (state_by B.look (line_seen S.ByteSource) (clock_seen C.latest C.readings C.pauses) W.sight p.core p.bodies.items p.control p.clock p.watch p.end) };
+    ghost invariant = { λ p. IsPipe (W.suits p.watch) (W.knows p.watch) p.has_failed (state_by B.look (line_seen S.ByteSource) (clock_seen C.latest C.readings C.pauses) W.sight p.core p.bodies.items p.control p.clock p.watch p.end) };
 }
 
 impl<B: Works, S: ByteSource, C: Clock, W: Shown> Held for Pipe<B, S, C, W> {
@@ -95,9 +94,9 @@ impl<B: Works, S: ByteSource, C: Clock, W: Shown> Pipe<B, S, C, W> {
         ensures stems { Stems (state_of result) (state_of result) }
         ensures none_away { away_of (state_of result) ≡ [] }
     {
-        let RunCore { state } = core;
+        core.stands();
         Pipe {
-            core: state,
+            core,
             bodies,
             control,
             clock,
@@ -111,8 +110,7 @@ impl<B: Works, S: ByteSource, C: Clock, W: Shown> Pipe<B, S, C, W> {
     pub fn into_parts(self) -> PipeParts<B, S, C, W>
         ensures whole { IsWhole (state_of self) }
         ensures parts { state_of self ≡ state_by B.look (line_seen S.ByteSource) (clock_seen C.latest C.readings C.pauses) W.sight result.core result.bodies.items result.control result.clock result.watch result.end }
-        ensures known { result.has_failed ≡ (W.sight result.watch).failed }
-        ensures watched { HasSeen (W.suits result.watch) (W.knows result.watch) (W.sight result.watch).failed (HasMemory result.end) result.core.topology result.core.journal.steps }
+        ensures watched { IsWatched (W.suits result.watch) (W.knows result.watch) result.has_failed (W.sight result.watch).failed (HasMemory result.end) result.core.topology result.core.journal.steps }
     {
         let Pipe {
             core,
@@ -124,7 +122,7 @@ impl<B: Works, S: ByteSource, C: Clock, W: Shown> Pipe<B, S, C, W> {
             end,
         } = self;
         PipeParts {
-            core: RunCore { state: core },
+            core,
             bodies,
             control,
             clock,

@@ -55,10 +55,10 @@ impl<B: Works, S: ByteSource, C: Clock, W: Shown> Shift for Pipe<B, S, C, W> {
 
     // Where sources were found empty since anything else happened, the next fetch is no news.
     fn ahead(&self) -> Ahead {
-        if self.core.totals.quiet > 0 {
+        if self.core.state.totals.quiet > 0 {
             return Ahead::Nothing;
         }
-        match next_move(&self.core) {
+        match next_move(&self.core.state) {
             Move::Job(stage) if !self.is_quick(stage) => Ahead::Job,
             _ => Ahead::Little,
         }
@@ -85,7 +85,7 @@ impl<B: Works, S: ByteSource, C: Clock, W: Shown> Pipe<B, S, C, W> {
         requires home { (opened : PipeState) × (seen : History) × Stems opened (state_of self.old) × IsBrought B.look opened seen self.old.steps brought }
         ensures serves { Serves B.look brought result (state_of self.old) (state_of self.new) }
     {
-        let alloc = self.core.alloc;
+        let alloc = self.core.state.alloc;
         let mut round = self.hold(brought);
         for _ in 0..QUICK_JOBS {
             match round {
@@ -131,6 +131,7 @@ impl<B: Works, S: ByteSource, C: Clock, W: Shown> Pipe<B, S, C, W> {
             &mut self.clock,
             brought,
         );
+        self.core.stands();
         let shown = show(&mut self.watch, &mut self.has_failed, &self.core);
         let (round, end) = told(came, shown);
         self.end = end;
@@ -147,6 +148,7 @@ impl<B: Works, S: ByteSource, C: Clock, W: Shown> Pipe<B, S, C, W> {
         match brought {
             Some(home) => {
                 let _ = come_home(&mut self.core, &mut self.bodies, home);
+                self.core.stands();
                 let _ = show(&mut self.watch, &mut self.has_failed, &self.core);
                 Round::Ended
             }
@@ -176,8 +178,7 @@ fn told<B>(
     came: Result<Next<B>, AllocError>,
     shown: Result<(), AllocError>,
 ) -> (Round<Load<B>>, Option<Result<RunEnd, AllocError>>)
-    ensures round { result.0 ≡ round_shown shown (round_of came) }
-    ensures end { result.1 ≡ end_shown shown (end_of came) }
+    ensures { result ≡ (round_shown shown (round_of came), end_shown shown (end_of came)) }
 {
     let (round, end) = came_to(came);
     match shown {
@@ -200,8 +201,7 @@ fn cut_short<L>(round: Round<L>) -> Round<L>
 fn came_to<B>(
     came: Result<Next<B>, AllocError>,
 ) -> (Round<Load<B>>, Option<Result<RunEnd, AllocError>>)
-    ensures round { result.0 ≡ round_of came }
-    ensures end { result.1 ≡ end_of came }
+    ensures { result ≡ (round_of came, end_of came) }
 {
     match came {
         Ok(Next::Job(load)) => (Round::Job(load), None),

@@ -2,7 +2,6 @@
 
 ghost use Rattle.std.specs.Prelude.{◌≡◌, None, IfSome, length, if◌then◌else◌};
 ghost use Rattle.pipe_model.specs.Moves.{jobs_out};
-ghost use Rattle.core_state.specs.Stands.{Stands};
 ghost use Rattle.stage_bodies.specs.Seen.{body_at, line_seen};
 ghost use Rattle.body_laws.specs.Ready.{Ready};
 ghost use Rattle.stage_moves.specs.Clocks.{clock_seen};
@@ -11,10 +10,9 @@ ghost use Rattle.stage_holds.specs.{Holds.{Holds, IsHome}, Nexts.{HasSlept}, Par
 use crate::homes::come_home;
 use crate::leaves::leave;
 use crate::loads::{Home, Load};
-use core_rows::jobs::is_halted;
 use core_rows::posts::is_any_out;
-use core_state::Core;
 use pipe_edges::{ByteSource, Clock, LineSource};
+use run_core::RunCore;
 use stage_bodies::Works;
 use stage_moves::{Move, advance, pause};
 use std::alloc::AllocError;
@@ -38,16 +36,14 @@ pub enum Next<B> {
 /// next job, lets time pass where no job is out and nothing is to do, or tells why the worker goes away without one. The error
 /// is want of memory; what was brought is at home all the same.
 pub fn hold<B: Works, S: ByteSource, C: Clock>(
-    core: &mut Core,
+    core: &mut RunCore,
     bodies: &mut Vec<Option<B>>,
     control: &mut Option<LineSource<S>>,
     clock: &mut C,
     brought: Option<Home<B>>,
 ) -> Result<Next<B>, AllocError>
-    requires stands { Stands core.old }
     requires ready { Ready core.old.topology core.old.journal.steps (body_at B.look bodies.old.items) }
     requires brought { IfSome brought (IsHome B.look core.old.topology core.old.journal.steps (length bodies.old.items)) }
-    ensures stands { Stands core.new }
     ensures holds { Holds B.look brought result (parts_by B.look (line_seen S.ByteSource) (clock_seen C.latest C.readings C.pauses) core.old bodies.old.items control.old clock.old)
         (parts_by B.look (line_seen S.ByteSource) (clock_seen C.latest C.readings C.pauses) core.new bodies.new.items control.new clock.new) }
     // It answers that time has passed only behind a pause of the clock.
@@ -64,19 +60,17 @@ pub fn hold<B: Works, S: ByteSource, C: Clock>(
 
 /// What a worker does that has nothing to bring home, or has done so.
 fn set_out<B: Works, S: ByteSource, C: Clock>(
-    core: &mut Core,
+    core: &mut RunCore,
     bodies: &mut Vec<Option<B>>,
     control: &mut Option<LineSource<S>>,
     clock: &mut C,
 ) -> Result<Next<B>, AllocError>
-    requires stands { Stands core.old }
     requires ready { Ready core.old.topology core.old.journal.steps (body_at B.look bodies.old.items) }
-    ensures stands { Stands core.new }
     ensures holds { Holds B.look None result (parts_by B.look (line_seen S.ByteSource) (clock_seen C.latest C.readings C.pauses) core.old bodies.old.items control.old clock.old)
         (parts_by B.look (line_seen S.ByteSource) (clock_seen C.latest C.readings C.pauses) core.new bodies.new.items control.new clock.new) }
     ensures slept { HasSlept result (C.pauses clock.old) (C.pauses clock.new) }
 {
-    if is_halted(core) {
+    if core.is_halted() {
         return Ok(rest_halted(core));
     }
     match advance(core, bodies, control, clock)? {
@@ -85,6 +79,7 @@ fn set_out<B: Works, S: ByteSource, C: Clock>(
             Err(failed) => Err(failed),
         },
         Move::Pause => {
+            core.stands();
             pause(core, clock)?;
             Ok(Next::Paused)
         }
@@ -96,11 +91,10 @@ fn set_out<B: Works, S: ByteSource, C: Clock>(
 }
 
 /// Where the pipeline has halted: whether jobs are out that have to come home.
-fn rest_halted<B: Works>(core: &Core) -> Next<B>
-    requires stands { Stands core.now }
+fn rest_halted<B: Works>(core: &RunCore) -> Next<B>
     ensures { result ≡ (if jobs_out core.now.topology core.now.journal.steps then Next.JobsOut else Next.Halted) }
 {
-    if is_any_out(core) {
+    if is_any_out(&core.state) {
         Next::JobsOut
     } else {
         Next::Halted

@@ -2,15 +2,14 @@
 
 ghost use Rattle.std.specs.Prelude.{◌≡◌, ◌≤◌, length, IsTrue, OnOk, OnErr};
 ghost use Rattle.pipe_model.specs.Legal.{allows};
-ghost use Rattle.core_state.specs.Stands.{Stands};
 ghost use Rattle.stage_bodies.specs.{Posts.{brings_records}, Seen.{body_at}};
 ghost use Rattle.body_laws.specs.{Lates.{late_of}, Ready.{Ready}};
 ghost use Rattle.stage_holds.specs.{Answers.{is_in_time, answer_step, with_answered}, Holds.{Comes, IsHome}};
 
 use crate::loads::Home;
 use core_lates::late;
-use core_state::Core;
 use pipe_types::step::LateAnswer;
+use run_core::RunCore;
 use stage_bodies::{Answer, Outcome, Works, place_of, put_back};
 use stage_moves::record_answer;
 use std::alloc::AllocError;
@@ -19,14 +18,12 @@ use std::alloc::AllocError;
 /// of memory, in the job or for the records that it brings: the body is at home, and no step was added. Every other answer is
 /// recorded.
 pub fn come_home<B: Works>(
-    core: &mut Core,
+    core: &mut RunCore,
     bodies: &mut Vec<Option<B>>,
     home: Home<B>,
 ) -> Result<(), AllocError>
-    requires stands { Stands core.old }
     requires ready { Ready core.old.topology core.old.journal.steps (body_at B.look bodies.old.items) }
     requires back { IsHome B.look core.old.topology core.old.journal.steps (length bodies.old.items) home }
-    ensures stands { Stands core.new }
     ensures topology { core.new.topology ≡ core.old.topology }
     ensures len { length bodies.new.items ≡ length bodies.old.items }
     ensures comes { Comes result home.post home.answer (B.look home.body) core.old.topology core.old.journal.steps (body_at B.look bodies.old.items) core.new.journal.steps (body_at B.look bodies.new.items) }
@@ -34,19 +31,20 @@ pub fn come_home<B: Works>(
     let Home { post, answer, body } = home;
     let at = place_of(post);
     put_back(bodies, at, body);
-    record(core, answer?)
+    core.stands();
+    let recorded = record(core, answer?);
+    core.stands();
+    recorded
 }
 
 /// Appends the step of the answer, with the one that it owes.
-fn record(core: &mut Core, answer: Answer) -> Result<(), AllocError>
-    requires stands { Stands core.old }
+fn record(core: &mut RunCore, answer: Answer) -> Result<(), AllocError>
     requires legal { IsTrue (allows core.old.topology core.old.journal.steps (answer_step core.old.topology core.old.journal.steps answer)) }
     requires stage { 1 ≤ answer.post.stage.0 }
     ensures appended { OnOk result (core.new.journal.steps ≡ with_answered core.old.topology core.old.journal.steps answer) }
     ensures unchanged { OnErr result (core.new.journal.steps ≡ core.old.journal.steps) }
     ensures refused { OnErr result (IsTrue (brings_records answer.outcome)) }
     ensures topology { core.new.topology ≡ core.old.topology }
-    ensures stands { Stands core.new }
 {
     if is_in_time(core, &answer) {
         return record_answer(core, answer);
@@ -56,15 +54,14 @@ fn record(core: &mut Core, answer: Answer) -> Result<(), AllocError>
         incarnation,
         outcome,
     } = answer;
-    match late(core, post, incarnation, late_of(outcome)) {
+    match late(&mut core.state, post, incarnation, late_of(outcome)) {
         Ok(()) => Ok(()),
         Err((_, failed)) => Err(failed),
     }
 }
 
 /// Whether the incarnation that the job left from is live.
-fn is_in_time(core: &Core, answer: &Answer) -> bool
-    requires stands { Stands core.now }
+fn is_in_time(core: &RunCore, answer: &Answer) -> bool
     ensures { result ≡ is_in_time core.now.topology core.now.journal.steps answer.now }
 {
     core.is_live(answer.post.stage) && core.incarnation(answer.post.stage) == answer.incarnation

@@ -2,6 +2,7 @@ pub mod Moves
 pub mod Times
 pub mod Controls
 pub mod Own
+pub mod Legality
 pub mod Ticking
 pub mod Results
 pub mod Callbacks

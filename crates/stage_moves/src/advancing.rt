@@ -4,7 +4,6 @@ ghost use Rattle.std.specs.Prelude.{◌≡◌, ◌<◌, ◌≤◌, ◌+◌, ◌*
 ghost use Rattle.pipe_types.specs.declared.step.Step.{Step as StepSeen};
 ghost use Rattle.pipe_model.specs.{History.{controls}, Legal.{happened, is_halt}, Moves.{move as next_move_of, jobs_out, StepMove, Pause as PauseMove}};
 ghost use Rattle.work_laws.specs.Left.{work_left};
-ghost use Rattle.core_state.specs.Stands.{Stands};
 ghost use Rattle.core_moves.specs.Moves.{seen_as};
 ghost use Rattle.stage_bodies.specs.Seen.{LineSeen, body_at, line_seen};
 ghost use Rattle.body_laws.specs.Ready.{Ready};
@@ -15,23 +14,21 @@ use crate::clocks::read_clock;
 use crate::steps::go_on;
 use control_lines::read_control;
 use core_moves::moves::Move;
-use core_state::Core;
 use pipe_edges::{ByteSource, Clock, LineSource};
+use run_core::RunCore;
 use stage_bodies::Works;
 use std::alloc::AllocError;
 
 /// Reads the clock and one control line, makes the steps of the pipeline's own that come next, and answers the move that
 /// comes then. One job may then be begun.
 pub fn advance<B: Works, S: ByteSource, C: Clock>(
-    core: &mut Core,
+    core: &mut RunCore,
     bodies: &mut Vec<Option<B>>,
     control: &mut Option<LineSource<S>>,
     clock: &mut C,
 ) -> Result<Move, AllocError>
-    requires stands { Stands core.old }
     requires ready { Ready core.old.topology core.old.journal.steps (body_at B.look bodies.old.items) }
     requires going { happened is_halt core.old.journal.steps ≡ false }
-    ensures stands { Stands core.new }
     ensures topology { core.new.topology ≡ core.old.topology }
     ensures goes { GoesOn core.old.topology core.old.journal.steps (body_at B.look bodies.old.items) core.new.journal.steps (body_at B.look bodies.new.items) }
     ensures ready { Ready core.old.topology core.new.journal.steps (body_at B.look bodies.new.items) }
@@ -54,5 +51,7 @@ pub fn advance<B: Works, S: ByteSource, C: Clock>(
 {
     read_clock(core, clock)?;
     read_control(core, control)?;
-    go_on(core, bodies)
+    let next = go_on(core, bodies);
+    core.stands();
+    next
 }

@@ -3,13 +3,12 @@
 ghost use Rattle.std.specs.Prelude.{◌≡◌, false, None};
 ghost use Rattle.pipe_types.specs.Counts.{Rose};
 ghost use Rattle.pipe_model.specs.Legal.{happened, is_halt};
-ghost use Rattle.core_state.specs.Stands.{Stands};
 ghost use Rattle.stage_moves.specs.{Clocks.{clock_seen, IsRead, IsPaused}, Going.{Waits}, Pauses.{least_time, pause_of}};
 
 use core_calls::asks::tick;
-use core_state::Core;
 use pipe_edges::Clock;
 use pipe_types::topology::{Role, StageSpec, Topology};
+use run_core::RunCore;
 use stage_bodies::has_several_sources;
 use std::alloc::AllocError;
 
@@ -25,10 +24,8 @@ const PAUSES: u64 = 32;
 const IDLE_PAUSES: u64 = 4;
 
 /// Reads the clock, and appends a tick where the reading is past the last one.
-pub(crate) fn read_clock<C: Clock>(core: &mut Core, clock: &mut C) -> Result<(), AllocError>
-    requires stands { Stands core.old }
+pub(crate) fn read_clock<C: Clock>(core: &mut RunCore, clock: &mut C) -> Result<(), AllocError>
     requires going { happened is_halt core.old.journal.steps ≡ false }
-    ensures stands { Stands core.new }
     ensures topology { core.new.topology ≡ core.old.topology }
     ensures waits { Waits core.old.topology core.old.journal.steps core.new.journal.steps }
     ensures read { IsRead result core.old.journal.steps core.new.journal.steps (clock_seen C.latest C.readings C.pauses clock.old) (clock_seen C.latest C.readings C.pauses clock.new) }
@@ -36,7 +33,7 @@ pub(crate) fn read_clock<C: Clock>(core: &mut Core, clock: &mut C) -> Result<(),
 {
     let reading = clock.now();
     if reading > core.now() {
-        tick(core, reading)?;
+        tick(&mut core.state, reading)?;
     }
     Ok(())
 }
@@ -81,10 +78,8 @@ fn pause_ms(topology: &Topology) -> u64
 }
 
 /// Lets time pass, reads the clock, and appends a tick with that reading, or with the last tick where the reading is below.
-pub fn pause<C: Clock>(core: &mut Core, clock: &mut C) -> Result<(), AllocError>
-    requires stands { Stands core.old }
+pub fn pause<C: Clock>(core: &mut RunCore, clock: &mut C) -> Result<(), AllocError>
     requires going { happened is_halt core.old.journal.steps ≡ false }
-    ensures stands { Stands core.new }
     ensures topology { core.new.topology ≡ core.old.topology }
     ensures waits { Waits core.old.topology core.old.journal.steps core.new.journal.steps }
     ensures paused { IsPaused result core.old.journal.steps core.new.journal.steps (clock_seen C.latest C.readings C.pauses clock.old) (clock_seen C.latest C.readings C.pauses clock.new) }
@@ -93,5 +88,5 @@ pub fn pause<C: Clock>(core: &mut Core, clock: &mut C) -> Result<(), AllocError>
     clock.pause_for(pause_ms(core.topology()));
     let reading = clock.now();
     let now = core.now().max(reading);
-    tick(core, now)
+    tick(&mut core.state, now)
 }

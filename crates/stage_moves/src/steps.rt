@@ -4,7 +4,6 @@ ghost use Rattle.std.specs.Prelude.{◌<◌, ◌≡◌, length, OnOk, IfOk};
 ghost use Rattle.pipe_types.specs.{declared.step.Step.{Step as StepSeen}, declared.step.Step.TheVariants.{Restart}};
 ghost use Rattle.pipe_model.specs.Moves.{move as next_move_of, StepMove};
 ghost use Rattle.work_laws.specs.Left.{work_left};
-ghost use Rattle.core_state.specs.Stands.{Stands};
 ghost use Rattle.core_moves.specs.Moves.{seen_as};
 ghost use Rattle.stage_bodies.specs.Seen.{body_at};
 ghost use Rattle.body_laws.specs.Ready.{Ready};
@@ -13,20 +12,18 @@ ghost use Rattle.stage_moves.specs.Going.{Advances};
 use crate::resets::reset_bodies;
 use core_jobs::own_step;
 use core_moves::{Move, next_move};
-use core_state::Core;
 use pipe_types::numbers::StageNo;
 use pipe_types::step::Step;
+use run_core::RunCore;
 use stage_bodies::Works;
 use std::alloc::AllocError;
 
 /// Makes the steps of the pipeline's own, as long as one comes next, and answers the move that comes then.
 pub(crate) fn go_on<B: Works>(
-    core: &mut Core,
+    core: &mut RunCore,
     bodies: &mut Vec<Option<B>>,
 ) -> Result<Move, AllocError>
-    requires stands { Stands core.old }
     requires ready { Ready core.old.topology core.old.journal.steps (body_at B.look bodies.old.items) }
-    ensures stands { Stands core.new }
     ensures topology { core.new.topology ≡ core.old.topology }
     ensures len { length bodies.new.items ≡ length bodies.old.items }
     ensures advances { Advances core.old.topology core.old.journal.steps (body_at B.look bodies.old.items) core.new.journal.steps (body_at B.look bodies.new.items) }
@@ -34,7 +31,7 @@ pub(crate) fn go_on<B: Works>(
     ensures no_step { IfOk result (λ move. (step : StepSeen) → ¬ (seen_as move ≡ StepMove step)) }
 {
     loop {
-        match next_move(core) {
+        match next(core) {
             Move::Step(step) => make(core, bodies, step)?,
             Move::Job(stage) => return Ok(Move::Job(stage)),
             Move::Drained => return Ok(Move::Drained),
@@ -45,21 +42,27 @@ pub(crate) fn go_on<B: Works>(
     }
 }
 
+/// The move that comes next.
+fn next(core: &RunCore) -> Move
+    ensures { seen_as result ≡ next_move_of core.now.topology core.now.journal.steps }
+{
+    next_move(&core.state)
+}
+
 /// Makes the step of the pipeline's own that comes next.
 fn make<B: Works>(
-    core: &mut Core,
+    core: &mut RunCore,
     bodies: &mut Vec<Option<B>>,
     step: Step,
 ) -> Result<(), AllocError>
-    requires stands { Stands core.old }
     requires ready { Ready core.old.topology core.old.journal.steps (body_at B.look bodies.old.items) }
     requires first { next_move_of core.old.topology core.old.journal.steps ≡ StepMove step }
-    ensures stands { Stands core.new }
     ensures topology { core.new.topology ≡ core.old.topology }
     ensures len { length bodies.new.items ≡ length bodies.old.items }
     ensures advances { Advances core.old.topology core.old.journal.steps (body_at B.look bodies.old.items) core.new.journal.steps (body_at B.look bodies.new.items) }
     ensures less { OnOk result (work_left core.old.topology core.new.journal.steps < work_left core.old.topology core.old.journal.steps) }
 {
+    core.stands();
     match step {
         Step::Restart { stage } => restart(core, bodies, stage),
         step => own_step(core, step),
@@ -68,19 +71,18 @@ fn make<B: Works>(
 
 /// Restarts the stage. Its callbacks count from 0 again.
 fn restart<B: Works>(
-    core: &mut Core,
+    core: &mut RunCore,
     bodies: &mut Vec<Option<B>>,
     stage: StageNo,
 ) -> Result<(), AllocError>
-    requires stands { Stands core.old }
     requires ready { Ready core.old.topology core.old.journal.steps (body_at B.look bodies.old.items) }
     requires first { next_move_of core.old.topology core.old.journal.steps ≡ StepMove (Restart stage) }
-    ensures stands { Stands core.new }
     ensures topology { core.new.topology ≡ core.old.topology }
     ensures len { length bodies.new.items ≡ length bodies.old.items }
     ensures advances { Advances core.old.topology core.old.journal.steps (body_at B.look bodies.old.items) core.new.journal.steps (body_at B.look bodies.new.items) }
     ensures less { OnOk result (work_left core.old.topology core.new.journal.steps < work_left core.old.topology core.old.journal.steps) }
 {
+    core.stands();
     own_step(core, Step::Restart { stage })?;
     reset_bodies(bodies, stage);
     Ok(())

@@ -1,4 +1,5 @@
-use Rattle.std.proofs.Common.{sym, ◌∙◌, inl, refl}
+use Rattle.std.proofs.Common.{◌≡◌, sym, ◌∙◌, inl, refl, subst}
+use Rattle.core_state.specs.Stands.{Stands}
 use Rattle.stage_bodies.specs.Seen.{line_seen}
 use Rattle.control_lines.proofs.Kept.{ended_keeps, is_reading}
 use Rattle.control_lines.proofs.Naming.{may_read, limit_allowed}
@@ -17,20 +18,25 @@ returns-then-is_ended-clause-keeps g c opened k =
 pub source_end-requires-clause-legal : goal.source_end-requires-clause-legal
 source_end-requires-clause-legal g c =
     let core = c.args.core.now in
-    limit_allowed core.topology core.journal.steps c.requires.stands.unowed c.requires.going (sym c.is_ended.ensures ∙ c.if-is_ended.false)
-    (full_at core.topology core.journal.steps c.requires.stands.holds.legal (sym c.is_full.ensures ∙ c.if-is_full.true))
+    let is : c.core.inside.state ≡ core = c.core.view_is in
+    let stands = subst Stands is c.core.invariant in
+    rw is (limit_allowed core.topology core.journal.steps stands.unowed c.requires.going (sym c.is_ended.ensures ∙ c.if-is_ended.false)
+    (full_at core.topology core.journal.steps stands.holds.legal (sym c.is_full.ensures ∙ c.if-is_full.true)))
 
 pub returns-then-is_full-clause-adds : goal.returns-then-is_full-clause-adds
 returns-then-is_full-clause-adds g c =
-    limit_adds c.source_end.result c.args.core.now.journal.steps c.source_end.new.core.journal.steps c.source_end.ensures.appended c.source_end.ensures.unchanged
+    let is : c.core.inside.state ≡ c.args.core.now = c.core.view_is in
+    limit_adds c.source_end.result c.args.core.now.journal.steps c.source_end.new.core.journal.steps (rw is at c.source_end.ensures.appended) (rw is at c.source_end.ensures.unchanged)
 
 pub returns-then-is_full-clause-keeps : goal.returns-then-is_full-clause-keeps
 returns-then-is_full-clause-keeps g c opened k =
     let core = c.args.core.now in
     let s = g.S.ByteSource in
+    let is : c.core.inside.state ≡ core = c.core.view_is in
+    let stands = subst Stands is c.core.invariant in
     limit_on c.source_end.result core.topology core.journal.steps c.source_end.new.core.journal.steps opened (line_seen s c.args.lines.now)
-    c.source_end.ensures.appended c.source_end.ensures.unchanged
-    (full_at core.topology core.journal.steps c.requires.stands.holds.legal (sym c.is_full.ensures ∙ c.if-is_full.true)) k
+    (rw is at c.source_end.ensures.appended) (rw is at c.source_end.ensures.unchanged)
+    (full_at core.topology core.journal.steps stands.holds.legal (sym c.is_full.ensures ∙ c.if-is_full.true)) k
 
 pub returns-in_err-outcome-clause-adds : goal.returns-in_err-outcome-clause-adds
 returns-in_err-outcome-clause-adds g c = inl refl

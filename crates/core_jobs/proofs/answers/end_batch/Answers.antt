@@ -4,15 +4,17 @@ use Rattle.pipe_types.specs.declared.step.Step.{Step}
 use Rattle.pipe_types.specs.declared.step.Step.TheVariants.{Wrote, Kill}
 use Rattle.pipe_model.specs.Legal.{allows}
 use Rattle.stage_bodies.specs.Posts.{is_crashed_end}
+use Rattle.core_state.specs.declared.state.Core.{Core}
+use Rattle.core_jobs.specs.Recorded.{and_kill}
 use Rattle.core_jobs.proofs.Owned.{calm_end}
 use Rattle.core_jobs.proofs.Owing.{crash_as, with_kill, without_kill}
 use Rattle.core_jobs.proofs.answers.end_batch.Goals as goal
 
-pub crash_batch-requires-clause-legal : goal.crash_batch-requires-clause-legal
-crash_batch-requires-clause-legal c =
+pub crash_batch-requires : goal.crash_batch-requires
+crash_batch-requires c =
     let core = c.args.core.now in
     let is = crash_as core.topology core.journal.steps c.args.stage c.args.bytes c.args.end (sym c.has_crashed.ensures ∙ c.if-has_crashed.true) c.requires.legal in
-    subst (λ (step : Step). allows core.topology core.journal.steps step ≡ true) (sym is) c.requires.legal
+    record { legal = subst (λ (step : Step). allows core.topology core.journal.steps step ≡ true) (sym is) c.requires.legal }
 
 pub returns-then-has_crashed-clause-appended : goal.returns-then-has_crashed-clause-appended
 returns-then-has_crashed-clause-appended c =
@@ -28,8 +30,10 @@ wrote-requires-clause-answered c = calm_end c.args.end (sym c.has_crashed.ensure
 
 pub returns-clause-appended : goal.returns-clause-appended
 returns-clause-appended c =
+    let written = Wrote c.args.stage c.args.bytes c.args.end in
     c.wrote.ensures.appended
-    ∙ without_kill (is_crashed_end c.args.end) c.args.stage (Wrote c.args.stage c.args.bytes c.args.end ∷ c.args.core.now.journal.steps) (sym c.has_crashed.ensures ∙ c.if-has_crashed.false)
+    ∙ (without_kill (is_crashed_end c.args.end) c.args.stage (written ∷ c.core.inside.state.journal.steps) (sym c.has_crashed.ensures ∙ c.if-has_crashed.false)
+    ∙ ap (λ (k : Core). and_kill (is_crashed_end c.args.end) c.args.stage (written ∷ k.journal.steps)) c.core.view_is)
 
 pub returns-clause-ok : goal.returns-clause-ok
 returns-clause-ok c = c.let_go.ensures ∙ c.wrote.ensures.ok

@@ -1,6 +1,8 @@
-use Rattle.std.proofs.Common.{◌∷◌, true, false, ◌∙◌}
+use Rattle.std.proofs.Common.{◌∷◌, true, false, ap, ◌∙◌}
 use Rattle.pipe_types.specs.declared.step.Step.TheVariants.{Done}
 use Rattle.pipe_model.specs.Content.{has_crash}
+use Rattle.core_state.specs.declared.state.Core.{Core}
+use Rattle.core_jobs.specs.Recorded.{and_kill}
 use Rattle.core_jobs.proofs.Owing.{crash_read, with_kill, without_kill}
 use Rattle.core_jobs.proofs.answers.reply.Goals as goal
 
@@ -18,9 +20,11 @@ answer-requires-clause-calm c = crash_read c.args.replies c.as_slice.result.now 
 
 pub returns-clause-appended : goal.returns-clause-appended
 returns-clause-appended c =
+    let answered = Done c.args.stage c.args.replies in
     c.answer.ensures.appended
-    ∙ without_kill (has_crash c.args.replies) c.args.stage (Done c.args.stage c.args.replies ∷ c.args.core.now.journal.steps)
+    ∙ (without_kill (has_crash c.args.replies) c.args.stage (answered ∷ c.core.inside.state.journal.steps)
     (crash_read c.args.replies c.as_slice.result.now c.any_crashed.result false c.as_slice.ensures c.any_crashed.ensures c.if-any_crashed.false)
+    ∙ ap (λ (k : Core). and_kill (has_crash c.args.replies) c.args.stage (answered ∷ k.journal.steps)) c.core.view_is)
 
 pub returns-clause-ok : goal.returns-clause-ok
 returns-clause-ok c = c.let_go.ensures ∙ c.answer.ensures.ok

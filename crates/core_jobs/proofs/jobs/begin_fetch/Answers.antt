@@ -8,13 +8,15 @@ use Rattle.core_jobs.proofs.jobs.begin_fetch.Goals as goal
 pub returns-clause-begun : goal.returns-clause-begun
 returns-clause-begun c =
     let core = c.args.core.now in
-    fetched refl (c.in_ok-most.ensures.appended ∙ ap (λ (n : ℕ). Fetch c.args.stage n ∷ core.journal.steps) c.in_ok-most.ensures.size)
+    let is : c.core.inside.state ≡ c.args.core.now = c.core.view_is in
+    fetched refl (rw is at c.in_ok-most.ensures.appended ∙ ap (λ (n : ℕ). Fetch c.args.stage n ∷ core.journal.steps) (rw is at c.in_ok-most.ensures.size))
 
 pub returns-clause-job : goal.returns-clause-job
 returns-clause-job c =
     let core = c.args.core.now in
     let after = c.fetch.new.core in
     let most = c.in_ok-most.most in
-    as_job core.topology after.topology (Fetch c.args.stage most ∷ core.journal.steps) after.journal.steps _ c.in_ok-most.ensures.topology c.in_ok-most.ensures.appended
+    let is : c.core.inside.state ≡ c.args.core.now = c.core.view_is in
+    as_job core.topology after.topology (Fetch c.args.stage most ∷ core.journal.steps) after.journal.steps _ (rw is at c.in_ok-most.ensures.topology) (rw is at c.in_ok-most.ensures.appended)
     (fetch_job core.topology core.journal.steps c.args.stage most c.incarnation-incarnation.result c.incarnation-incarnation.ensures
-    (subst (λ (n : ℕ). allows core.topology core.journal.steps (Fetch c.args.stage n) ≡ true) (sym c.in_ok-most.ensures.size) c.requires.legal))
+    (subst (λ (n : ℕ). allows core.topology core.journal.steps (Fetch c.args.stage n) ≡ true) (sym (rw is at c.in_ok-most.ensures.size)) c.requires.legal))

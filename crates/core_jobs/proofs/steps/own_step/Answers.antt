@@ -3,7 +3,10 @@ use Rattle.pipe_types.specs.declared.numbers.MsgNo.{MsgNo}
 use Rattle.pipe_types.specs.declared.step.Step.{Step}
 use Rattle.pipe_types.specs.declared.step.Step.TheVariants.{Ask, Gather}
 use Rattle.pipe_model.specs.Ledger.{due}
-use Rattle.pipe_model.specs.Legal.{allows}
+use Rattle.pipe_model.specs.Flow.{inbox}
+use Rattle.pipe_model.specs.Legal.{allows, first_unit}
+use Rattle.pipe_types.specs.Numbers.{message_no}
+use Rattle.core_state.specs.declared.state.Core.{Core}
 use Rattle.core_jobs.proofs.Owned.{ask_due, gather_first}
 use Rattle.core_jobs.proofs.steps.own_step.Goals.{In-Ask, In-Gather}
 use Rattle.core_jobs.proofs.steps.own_step.Goals as goal
@@ -22,23 +25,29 @@ ask_found c = ask_due c.args.core.now.topology c.args.core.now.journal.steps c.i
 pub ask-requires-clause-legal : goal.ask-requires-clause-legal
 ask-requires-clause-legal c =
     let asks = (goal.at.ask-requires-clause-legal c).In-Ask in
-    subst (λ (k : ℕ). allows c.args.core.now.topology c.args.core.now.journal.steps (Ask c.in-Ask.sub k) ≡ true) (ask_found asks) (ask_legal asks)
+    let is : c.core.inside.state ≡ c.args.core.now = c.core.view_is in
+    rw is (subst (λ (k : ℕ). allows c.args.core.now.topology c.args.core.now.journal.steps (Ask c.in-Ask.sub k) ≡ true) (ask_found asks) (ask_legal asks))
 
 pub gather-requires-clause-legal : goal.gather-requires-clause-legal
 gather-requires-clause-legal c =
     let core = c.args.core.now in
     let legal = gather_legal (goal.at.gather-requires-clause-legal c).In-Gather in
-    subst (λ (m : MsgNo). allows core.topology core.journal.steps (Gather c.in-Gather.stage m) ≡ true) (gather_first core.topology core.journal.steps c.in-Gather.stage c.in-Gather.no legal) legal
+    let is : c.core.inside.state ≡ c.args.core.now = c.core.view_is in
+    let s = c.in-Gather.stage in
+    subst (λ (k : Core). allows k.topology k.journal.steps (Gather s (message_no (first_unit (inbox k.topology k.journal.steps s)))) ≡ true) (sym is)
+    (subst (λ (m : MsgNo). allows core.topology core.journal.steps (Gather s m) ≡ true) (gather_first core.topology core.journal.steps s c.in-Gather.no legal) legal)
 
 pub returns-in_ok-ask-in-Ask-clause-appended : goal.returns-in_ok-ask-in-Ask-clause-appended
 returns-in_ok-ask-in-Ask-clause-appended c =
-    c.in_ok-ask-in-Ask.ensures.appended
-    ∙ (ap (λ (k : ℕ). Ask c.in-Ask.sub k ∷ c.args.core.now.journal.steps) (c.in_ok-ask-in-Ask.ensures.size ∙ sym (ask_found (goal.at.returns-in_ok-ask-in-Ask-clause-appended c).In-Ask))
+    let is : c.core.inside.state ≡ c.args.core.now = c.core.view_is in
+    rw is at c.in_ok-ask-in-Ask.ensures.appended
+    ∙ (ap (λ (k : ℕ). Ask c.in-Ask.sub k ∷ c.args.core.now.journal.steps) (rw is at c.in_ok-ask-in-Ask.ensures.size ∙ sym (ask_found (goal.at.returns-in_ok-ask-in-Ask-clause-appended c).In-Ask))
     ∙ ap (λ (step : Step). step ∷ c.args.core.now.journal.steps) (sym c.in-Ask.is))
 
 pub returns-in_ok-gather-in-Gather-clause-appended : goal.returns-in_ok-gather-in-Gather-clause-appended
 returns-in_ok-gather-in-Gather-clause-appended c =
     let core = c.args.core.now in
+    let is : c.core.inside.state ≡ c.args.core.now = c.core.view_is in
     let first = gather_first core.topology core.journal.steps c.in-Gather.stage c.in-Gather.no (gather_legal (goal.at.returns-in_ok-gather-in-Gather-clause-appended c).In-Gather) in
-    c.in_ok-gather-in-Gather.ensures.appended
-    ∙ (ap (λ (m : MsgNo). Gather c.in-Gather.stage m ∷ core.journal.steps) (c.in_ok-gather-in-Gather.ensures.first ∙ sym first) ∙ ap (λ (step : Step). step ∷ core.journal.steps) (sym c.in-Gather.is))
+    rw is at c.in_ok-gather-in-Gather.ensures.appended
+    ∙ (ap (λ (m : MsgNo). Gather c.in-Gather.stage m ∷ core.journal.steps) (rw is at c.in_ok-gather-in-Gather.ensures.first ∙ sym first) ∙ ap (λ (step : Step). step ∷ core.journal.steps) (sym c.in-Gather.is))

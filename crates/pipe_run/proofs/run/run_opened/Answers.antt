@@ -34,7 +34,7 @@ returns-in-Ok-clause-seen g c =
     let d = g.W.Watch in
     let parts = c.into_parts-core.result in
     seen_in (d.fits parts.watch) (d.stands parts.watch) (d.failed parts.watch) parts.end c.unwrap-end.result c.unwrap-end.result parts.core.topology _ parts.core.journal.steps c.unwrap-end.ensures (λ whole. whole)
-    (ran_to _ _ _ _ _ c.new-pipe.ensures.made c.into_parts-core.ensures.parts c.unwrap-end.ensures c.run_workers-pipe.ensures.ran).topology c.into_parts-core.ensures.watched
+    (ran_to _ _ _ _ _ c.new-pipe.ensures.made c.into_parts-core.ensures.parts c.unwrap-end.ensures c.run_workers-pipe.ensures.ran).topology c.into_parts-core.ensures.watched.seen
 
 pub returns-in-Err-clause-went : goal.returns-in-Err-clause-went
 returns-in-Err-clause-went g c =
@@ -48,4 +48,10 @@ returns-in-Err-clause-seen g c =
     let d = g.W.Watch in
     let parts = c.into_parts-core.result in
     seen_in (d.fits parts.watch) (d.stands parts.watch) (d.failed parts.watch) parts.end c.unwrap-end.result (Err c.in-Err.error) parts.core.topology _ parts.core.journal.steps c.unwrap-end.ensures (λ whole. let x : false ≡ true = whole in cc)
-    (ran_to _ _ _ _ _ c.new-pipe.ensures.made c.into_parts-core.ensures.parts c.unwrap-end.ensures c.run_workers-pipe.ensures.ran).topology c.into_parts-core.ensures.watched
+    (ran_to _ _ _ _ _ c.new-pipe.ensures.made c.into_parts-core.ensures.parts c.unwrap-end.ensures c.run_workers-pipe.ensures.ran).topology c.into_parts-core.ensures.watched.seen
+
+pub returns-in-Ok-clause-known : goal.returns-in-Ok-clause-known
+returns-in-Ok-clause-known g c = c.into_parts-core.ensures.watched.known
+
+pub returns-in-Err-clause-known : goal.returns-in-Err-clause-known
+returns-in-Err-clause-known g c = c.into_parts-core.ensures.watched.known

@@ -1,12 +1,15 @@
-use Rattle.std.proofs.Common.{◌≤◌, arith}
+use Rattle.std.proofs.Common.{◌≡◌, ◌≤◌, arith, subst}
 use Rattle.pipe_model.specs.History.{now}
+use Rattle.core_state.specs.Stands.{Stands}
 use Rattle.stage_moves.proofs.Ticking.{tick_may}
 use Rattle.stage_moves.proofs.Turning.{tick_waits}
 use Rattle.stage_moves.proofs.clocks.read_clock.Goals as goal
 
 pub tick-requires-clause-legal : goal.tick-requires-clause-legal
 tick-requires-clause-legal g c =
-    tick_may c.args.core.now.topology c.args.core.now.journal.steps c.now-reading.result c.requires.stands.unowed c.requires.going below
+    let is : c.core.inside.state ≡ c.args.core.now = c.core.view_is in
+    let stands = subst Stands is c.core.invariant in
+    rw is (tick_may c.args.core.now.topology c.args.core.now.journal.steps c.now-reading.result stands.unowed c.requires.going below)
   where
     below : now c.args.core.now.journal.steps ≤ c.now-reading.result
     below = let k = c.now.ensures in let h = c.if-reading-now.true in omega (arith, k, h)
@@ -14,4 +17,6 @@ tick-requires-clause-legal g c =
 pub returns-in_ok-tick-clause-waits : goal.returns-in_ok-tick-clause-waits
 returns-in_ok-tick-clause-waits g c =
     let e = c.tick.ensures in
-    tick_waits c.args.core.now.topology c.tick.new.core.topology c.args.core.now.journal.steps c.tick.new.core.journal.steps c.now-reading.result c.tick.result c.requires.stands.holds.sound e.topology e.stands.holds.legal e.appended e.unchanged
+    let is : c.core.inside.state ≡ c.args.core.now = c.core.view_is in
+    let stands = subst Stands is c.core.invariant in
+    tick_waits c.args.core.now.topology c.tick.new.core.topology c.args.core.now.journal.steps c.tick.new.core.journal.steps c.now-reading.result c.tick.result stands.holds.sound (rw is at e.topology) e.stands.holds.legal (rw is at e.appended) (rw is at e.unchanged)

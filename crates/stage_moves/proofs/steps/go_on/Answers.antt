@@ -20,7 +20,6 @@ made g c =
 
 pub loop-step-init : goal.loop-step-init
 loop-step-init g c = record {
-  stands = c.requires.stands;
   topology = refl;
   len = refl;
   advances = advances_same c.args.core.now.topology c.args.core.now.journal.steps (body_at g.B.Works.look c.args.bodies.now.items) c.requires.ready;
@@ -33,7 +32,6 @@ make-requires-clause-ready g c =
 
 pub loop-step-preserved : goal.loop-step-preserved
 loop-step-preserved g c = record {
-  stands = c.make.ensures.stands;
   topology = c.make.ensures.topology ∙ c.loop-step.invariant.topology;
   len = c.make.ensures.len ∙ c.loop-step.invariant.len;
   advances = made g (goal.at.loop-step-preserved g c).After-make;

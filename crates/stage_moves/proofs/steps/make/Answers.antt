@@ -6,6 +6,7 @@ use Rattle.stage_bodies.specs.Seen.{body_at}
 use Rattle.stage_moves.proofs.Moves.{named_move}
 use Rattle.stage_moves.proofs.Own.{named_own}
 use Rattle.stage_moves.proofs.Goings.{made, made_less}
+use Rattle.stage_moves.proofs.Legality.{legal_then}
 use Rattle.stage_moves.proofs.Results.{on_ok}
 use Rattle.stage_moves.proofs.steps.make.Goals as goal
 
@@ -13,7 +14,7 @@ pub own_step-requires-clause-legal : goal.own_step-requires-clause-legal
 own_step-requires-clause-legal g c =
     let t = c.args.core.now.topology in
     let h = c.args.core.now.journal.steps in
-    subst (IsLegalMove t h) c.requires.first (move_law t h c.requires.stands.holds.legal c.requires.stands.unowed)
+    subst (IsLegalMove t h) c.requires.first (move_law t h c.stands.ensures.holds.legal c.stands.ensures.unowed)
 
 pub own_step-requires-clause-own : goal.own_step-requires-clause-own
 own_step-requires-clause-own g c = named_own c.args.step (named_move c.args.core.now.topology c.args.core.now.journal.steps c.args.step c.requires.first)
@@ -25,12 +26,14 @@ returns-in_default g c =
     let h = c.args.core.now.journal.steps in
     let after = c.own_step.new.core.journal.steps in
     let other = c.own_step.new.core.topology in
+    let stands = c.stands.ensures in
+    let may = subst (IsLegalMove t h) c.requires.first (move_law t h stands.holds.legal stands.unowed) in
+    let legal = legal_then t other h after c.args.step c.own_step.result stands.holds.legal may e.topology e.appended e.unchanged in
     record {
-      stands = e.stands;
       topology = e.topology;
       len = refl;
-      advances = made t other h after c.args.step (body_at g.B.Works.look c.args.bodies.now.items) c.own_step.result c.requires.stands.holds.sound c.requires.ready e.topology e.stands.holds.legal c.requires.first
+      advances = made t other h after c.args.step (body_at g.B.Works.look c.args.bodies.now.items) c.own_step.result stands.holds.sound c.requires.ready e.topology legal c.requires.first
           c.in_default.not-Restart e.appended e.unchanged;
       less = on_ok (after ≡ c.args.step ∷ h) (work_left t after < work_left t h) c.own_step.result e.appended
-          (λ is. made_less t other h after c.args.step c.requires.stands.holds.sound e.topology e.stands.holds.legal c.requires.first is);
+          (λ is. made_less t other h after c.args.step stands.holds.sound e.topology legal c.requires.first is);
     }

@@ -11,10 +11,11 @@ invariant_of-self g c =
     let i = c.self.inside in
     let d = g.W.Shown in
     record {
-      stands = c.self.invariant.stands;
       whole = short_whole (pipe_by g.B.Works.look g.S.ByteSource g.C.Clock d i.core i.bodies.items i.control i.clock i.watch i.end) c.args.error c.self.invariant.whole;
-      watched = seen_where (d.suits i.watch) (d.knows i.watch) (d.sight i.watch).failed (HasMemory i.end) (HasMemory (Some (Err c.args.error))) i.core.topology i.core.journal.steps (λ memory. absurd memory) c.self.invariant.watched;
-      known = c.self.invariant.known;
+      watched = record {
+        seen = seen_where (d.suits i.watch) (d.knows i.watch) (d.sight i.watch).failed (HasMemory i.end) (HasMemory (Some (Err c.args.error))) i.core.topology i.core.journal.steps (λ memory. absurd memory) c.self.invariant.watched.seen;
+        known = c.self.invariant.watched.known;
+      };
     }
 
 pub returns-clause-ran : goal.returns-clause-ran

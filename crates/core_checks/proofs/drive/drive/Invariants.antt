@@ -1,5 +1,0 @@
-use Rattle.core_state.specs.Stands.{Stands}
-use Rattle.core_checks.proofs.drive.drive.Given as goal
-
-abbrev pub invariant-loop : goal.invariant-loop
-invariant-loop l = Stands l.core
