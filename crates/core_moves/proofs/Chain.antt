@@ -27,7 +27,7 @@ use Rattle.core_rows.proofs.Known.{due_dead}
 
 -- Stages that pass
 
-find_same : {A : Type 0} (f g : A → Bool) → ((x : A) → f x ≡ g x) → (xs : List A) → find f xs ≡ find g xs
+pub find_same : {A : Type 0} (f g : A → Bool) → ((x : A) → f x ≡ g x) → (xs : List A) → find f xs ≡ find g xs
 find_same f g same [] = refl
 find_same f g same (x ∷ xs) = ap (λ b. if b then Some x else find f xs) (same x) ∙ ap (λ o. if g x then Some x else o) (find_same f g same xs)
 

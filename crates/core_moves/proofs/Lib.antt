@@ -6,3 +6,4 @@ pub mod Starting
 pub mod Firsts
 pub mod Chain
 pub mod Waiting
+pub mod Behind

@@ -3,3 +3,4 @@ pub mod Sends
 pub mod Children
 pub mod Closes
 pub mod Moves
+pub mod Behind

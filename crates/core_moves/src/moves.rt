@@ -7,6 +7,7 @@ ghost use Rattle.pipe_model.specs.Moves.{move as next_move_of, move_or_pause, or
 ghost use Rattle.core_state.specs.Stands.{Stands};
 ghost use Rattle.core_rows.specs.Rows.{is_due};
 ghost use Rattle.core_moves.specs.Moves.{seen_as, found_as, cause_by, from_jobs, from_gathers, from_closes, from_dispatches, from_asks, from_drains, from_restarts};
+ghost use Rattle.core_moves.specs.Behind.{BehindGather, from_gathered};
 
 use crate::closes::{Closing, first_closing};
 use crate::finds::{first_to_dispatch, first_to_gather, first_to_restart, last_with_job};
@@ -50,7 +51,7 @@ pub(crate) enum Found {
 }
 
 /// The move that was found.
-fn move_of(found: Found) -> Move
+pub(crate) fn move_of(found: Found) -> Move
     ensures { seen_as result ≡ found_as found }
 {
     match found {
@@ -74,15 +75,7 @@ fn move_of(found: Found) -> Move
 }
 
 /// The first move that applies, as the rules have it.
-pub(crate) fn first_move(core: &Core) -> Move
-    requires stands { Stands core.now }
-    ensures { seen_as result ≡ next_move_of core.now.topology core.now.journal.steps }
-{
-    move_of(find_move(core))
-}
-
-/// The first move that applies.
-fn find_move(core: &Core) -> Found
+pub(crate) fn find_move(core: &Core) -> Found
     requires stands { Stands core.now }
     ensures { found_as result ≡ next_move_of core.now.topology core.now.journal.steps }
 {
@@ -94,6 +87,16 @@ fn find_move(core: &Core) -> Found
     } else {
         Found::Halted
     }
+}
+
+/// The first move that applies, where the last step is a gather of the stage that was itself the next move: of the lines before
+/// the closes only an ask can.
+pub(crate) fn find_behind_gather(core: &Core, stage: StageNo) -> Found
+    requires stands { Stands core.now }
+    requires behind { BehindGather core.now.topology core.now.journal.steps stage }
+    ensures { found_as result ≡ next_move_of core.now.topology core.now.journal.steps }
+{
+    ask_or_close(core)
 }
 
 /// The first move of a pipeline that has not halted.
@@ -174,6 +177,18 @@ fn ask_first(core: &Core) -> Found
     match first_due(core) {
         Some(sub) => ask_on(core, sub),
         None => dispatch_first(core),
+    }
+}
+
+/// The first move from the asks on, but the dispatches.
+fn ask_or_close(core: &Core) -> Found
+    requires stands { Stands core.now }
+    requires going { happened is_halt core.now.journal.steps ≡ false }
+    ensures { found_as result ≡ move_or_pause (from_gathered core.now.topology core.now.journal.steps) }
+{
+    match first_due(core) {
+        Some(sub) => ask_on(core, sub),
+        None => close_first(core),
     }
 }
 

@@ -2,6 +2,7 @@ use Rattle.std.proofs.Common.{refl, sym, ◌∙◌, subst}
 use Rattle.stage_bodies.specs.Seen.{body_at}
 use Rattle.body_laws.specs.Ready.{Ready}
 use Rattle.stage_moves.specs.Going.{Advances}
+use Rattle.core_moves.proofs.Behind.{behind_step}
 use Rattle.stage_moves.proofs.Goings.{advances_same, advances_then}
 use Rattle.stage_moves.proofs.steps.go_on.Given.{Over}
 use Rattle.stage_moves.proofs.steps.go_on.Goals.{After-make}
@@ -23,6 +24,7 @@ loop-step-init g c = record {
   topology = refl;
   len = refl;
   advances = advances_same c.args.core.now.topology c.args.core.now.journal.steps (body_at g.B.Works.look c.args.bodies.now.items) c.requires.ready;
+  behind = tt;
 }
 
 pub make-requires-clause-ready : goal.make-requires-clause-ready
@@ -35,6 +37,8 @@ loop-step-preserved g c = record {
   topology = c.make.ensures.topology ∙ c.loop-step.invariant.topology;
   len = c.make.ensures.len ∙ c.loop-step.invariant.len;
   advances = made g (goal.at.loop-step-preserved g c).After-make;
+  behind = behind_step c.loop-step.core.topology c.make.new.core.topology c.loop-step.core.journal.steps c.make.new.core.journal.steps c.in-Step.step c.gathers_in.result
+      c.make.ensures.topology c.make.ensures.made c.make.requires.first c.gathers_in.ensures;
 }
 
 pub returns-in_err-make-in-Step-clause-advances : goal.returns-in_err-make-in-Step-clause-advances

@@ -34,6 +34,7 @@ returns-in_default g c =
       len = refl;
       advances = made t other h after c.args.step (body_at g.B.Works.look c.args.bodies.now.items) c.own_step.result stands.holds.sound c.requires.ready e.topology legal c.requires.first
           c.in_default.not-Restart e.appended e.unchanged;
+      made = e.appended;
       less = on_ok (after ≡ c.args.step ∷ h) (work_left t after < work_left t h) c.own_step.result e.appended
           (λ is. made_less t other h after c.args.step stands.holds.sound e.topology legal c.requires.first is);
     }
