@@ -1,7 +1,8 @@
 -- Right behind a gather that was the next move, an ask comes, or what comes from the closes on.
-use Rattle.std.proofs.Common.{◌≡◌, ℕ, ◌-◌, List, [], ◌∷◌, map, refl, ap, sym, ◌∙◌, subst, Bool, true, false, Option, None, Some}
-use Rattle.std.specs.Prelude.{◌&&◌, ◌||◌, ◌==◌, not, if◌then◌else◌, filter, find, option_map, nat_lt, nat_le, zero, suc}
+use Rattle.std.proofs.Common.{◌≡◌, ℕ, ◌-◌, List, [], ◌∷◌, map, refl, ap, sym, ◌∙◌, subst, Bool, true, false, Option, None, Some, arith}
+use Rattle.std.specs.Prelude.{◌&&◌, ◌||◌, ◌==◌, not, if◌then◌else◌, filter, find, option_map, nat_lt, nat_le}
 use Rattle.std.specs.List.{list_all}
+use Rattle.std.proofs.lemmas.Bool.Decides.{nat_tests}
 use Rattle.pipe_types.specs.declared.numbers.MsgNo.{MsgNo}
 use Rattle.pipe_types.specs.declared.numbers.StageNo.{StageNo}
 use Rattle.pipe_types.specs.declared.numbers.SubNo.{SubNo}
@@ -27,7 +28,7 @@ use Rattle.pipe_model.specs.Flow.{place, view_of, sent, index_in, gathered, is_e
 use Rattle.pipe_model.specs.Legal.{is_legal, allows, owed, passes, is_dispatch_of, is_crash_of, may_come, may_dispatch, needs_restart, no_post_out, may_restart, happened, is_halt, is_drain}
 use Rattle.pipe_model.specs.Moves.{Move, StepMove, Drained, or_else, if_so, when, is_final, is_drained, jobs_out, all_subs, numbers_to, move, move_or_pause}
 use Rattle.pipe_laws.proofs.Allowed.{legal_step}
-use Rattle.pipe_laws.proofs.Tests.{clash, and_left, and_right, not_true}
+use Rattle.pipe_laws.proofs.Tests.{clash, and_left, and_right}
 use Rattle.queue_laws.proofs.Laws.{waiting_law}
 use Rattle.core_rows.proofs.Fetched.{going}
 use Rattle.core_moves.specs.Moves.{from_closes, from_dispatches, from_asks, from_drains, from_restarts}
@@ -166,14 +167,16 @@ cause_kept topology before s m cause may same =
     let goes = unhalted topology before s m may in
     sym (going topology (Gather s m ∷ before) (Drain cause) refl goes) ∙ (same ∙ going topology before (Drain cause) (unowed topology before s m may) goes)
 
+no_limit : (n : ℕ) → (nat_le 1 n && nat_le n 0) ≡ false
+no_limit n = grind (arith, nat_tests)
+
 never_idle : (topology : Topology) (before : History) (s : StageNo) (m : MsgNo) → allows topology before (Gather s m) ≡ true → allows topology (Gather s m ∷ before) (Drain Idle) ≡ false
 never_idle topology before s m may =
-    sym (going topology (Gather s m ∷ before) (Drain Idle) refl (unhalted topology before s m may)) ∙ by (happened is_drain before) topology.idle_limit
+    sym (going topology (Gather s m ∷ before) (Drain Idle) refl (unhalted topology before s m may)) ∙ by (happened is_drain before)
   where
-    by : (b : Bool) (n : ℕ) → (not b && (nat_le 1 n && nat_le n 0)) ≡ false
-    by true n = refl
-    by false zero = refl
-    by false (suc n) = refl
+    by : (b : Bool) → (not b && (nat_le 1 topology.idle_limit && nat_le topology.idle_limit 0)) ≡ false
+    by true = refl
+    by false = no_limit topology.idle_limit
 
 -- what comes behind the lines that do not apply
 from_here : (a b : Option Move) → a ≡ None → move_or_pause b ≡ move_or_pause (or_else a b)

@@ -38,7 +38,7 @@ loop-step-preserved g c = record {
   len = c.make.ensures.len ∙ c.loop-step.invariant.len;
   advances = made g (goal.at.loop-step-preserved g c).After-make;
   behind = behind_step c.loop-step.core.topology c.make.new.core.topology c.loop-step.core.journal.steps c.make.new.core.journal.steps c.in-Step.step c.gathers_in.result
-      c.make.ensures.topology c.make.ensures.made c.make.requires.first c.gathers_in.ensures;
+      c.make.ensures.topology c.in_ok-make.ensures.made (sym c.in-Step.ensures) c.gathers_in.ensures;
 }
 
 pub returns-in_err-make-in-Step-clause-advances : goal.returns-in_err-make-in-Step-clause-advances
