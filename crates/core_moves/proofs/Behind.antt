@@ -9,6 +9,7 @@ use Rattle.pipe_types.specs.declared.numbers.SubNo.{SubNo}
 use Rattle.pipe_types.specs.declared.topology.Topology.{Topology}
 use Rattle.pipe_types.specs.declared.topology.StageSpec.{StageSpec}
 use Rattle.pipe_types.specs.declared.message.BatchEnd.TheVariants.{Crashed as BatchCrashed}
+use Rattle.pipe_types.specs.declared.message.Trigger.{Trigger}
 use Rattle.pipe_types.specs.declared.message.Place.{Place}
 use Rattle.pipe_types.specs.declared.message.Place.TheVariants.{Inbox, Gathered}
 use Rattle.pipe_types.specs.declared.room.Room.{Room}
@@ -24,14 +25,15 @@ use Rattle.pipe_model.specs.History.{History, accepted, asked}
 use Rattle.pipe_model.specs.Content.{has_crash}
 use Rattle.pipe_model.specs.Lives.{is_live, current_sub, live_subs_from}
 use Rattle.pipe_model.specs.Ledger.{due}
-use Rattle.pipe_model.specs.Flow.{place, view_of, sent, index_in, gathered, is_empty, is_batcher, subs_of, serving_by, rooms_by, mark_in, over_in, unsent}
-use Rattle.pipe_model.specs.Legal.{is_legal, allows, owed, passes, is_dispatch_of, is_crash_of, may_come, may_dispatch, needs_restart, no_post_out, may_restart, happened, is_halt, is_drain}
-use Rattle.pipe_model.specs.Moves.{Move, StepMove, Drained, or_else, if_so, when, is_final, is_drained, jobs_out, all_subs, numbers_to, move, move_or_pause}
+use Rattle.pipe_model.specs.Flow.{place, view_of, sent, index_in, gathered, is_empty, is_batcher, subs_of, serving_by, rooms_by, mark_in, over_in, unsent, closing, first_in}
+use Rattle.pipe_model.specs.Legal.{is_legal, allows, owed, passes, is_dispatch_of, is_crash_of, may_come, may_dispatch, needs_restart, no_post_out, may_restart, happened, is_halt, is_drain, trigger_of}
+use Rattle.pipe_model.specs.Moves.{Move, StepMove, Drained, or_else, if_so, when, first_closable, closable, is_final, is_drained, jobs_out, all_subs, numbers_to, move, move_or_pause}
+use Rattle.pipe_model.specs.Standing.{gathered_in}
 use Rattle.pipe_laws.proofs.Allowed.{legal_step}
 use Rattle.pipe_laws.proofs.Tests.{clash, and_left, and_right}
 use Rattle.queue_laws.proofs.Laws.{waiting_law}
 use Rattle.core_rows.proofs.Fetched.{going}
-use Rattle.core_moves.specs.Moves.{from_closes, from_dispatches, from_asks, from_drains, from_restarts}
+use Rattle.core_moves.specs.Moves.{from_gathers, from_closes, from_dispatches, from_asks, from_drains, from_restarts}
 use Rattle.core_moves.specs.Behind.{BehindGather, IsBehind, gathers_in, from_gathered}
 use Rattle.core_moves.proofs.Chain.{find_same, on_is}
 
@@ -91,6 +93,26 @@ other_restart : (b : Bool) (s : StageNo) → is_gather (StepMove (if b then Rest
 other_restart true s = refl
 other_restart false s = refl
 
+other_first : (topology : Topology) (before : History) (s : StageNo) (ns : List ℕ) → NoGather (first_closable topology before s ns)
+other_first topology before s [] = tt
+other_first topology before s (n ∷ ns) =
+    by (first_in (closing before (view_of topology before) s n) == n) refl (trigger_of topology before s (closing before (view_of topology before) s n)) refl (other_first topology before s ns)
+  where
+    by : (b : Bool) → (first_in (closing before (view_of topology before) s n) == n) ≡ b → (o : Option Trigger) → trigger_of topology before s (closing before (view_of topology before) s n) ≡ o → NoGather (first_closable topology before s ns)
+        → NoGather (first_closable topology before s (n ∷ ns))
+    by false e o f rest = rw e rest
+    by true e None f rest = rw (e, f) rest
+    by true e (Some trigger) f rest = rw (e, f) refl
+
+other_else : (a b : Option Move) → NoGather a → NoGather b → NoGather (or_else a b)
+other_else None b p q = q
+other_else (Some move) b p q = p
+
+other_closable : (topology : Topology) (before : History) (specs : List StageSpec) → NoGather (closable topology before specs)
+other_closable topology before [] = tt
+other_closable topology before (spec ∷ specs) =
+    other_else (first_closable topology before spec.no (gathered_in topology before spec.no)) (closable topology before specs) (other_first topology before spec.no (gathered_in topology before spec.no)) (other_closable topology before specs)
+
 -- what did not apply before a gather that was the next move
 record Behind (topology : Topology) (before : History) : Type 0 where
   pub drained : if_so (is_drained topology before) Drained ≡ None
@@ -98,6 +120,7 @@ record Behind (topology : Topology) (before : History) : Type 0 where
   pub sources : if_so (allows topology before (Drain Sources)) (StepMove (Drain Sources)) ≡ None
   pub limit : if_so (allows topology before (Drain Limit)) (StepMove (Drain Limit)) ≡ None
   pub dispatches : when (λ spec. allows topology before (Dispatch spec.no)) (λ spec. StepMove (Dispatch spec.no)) topology.stages ≡ None
+  pub closes : closable topology before topology.stages ≡ None
 
 none_before : (topology : Topology) (before : History) (s : StageNo) (m : MsgNo) → happened is_halt before ≡ false → move topology before ≡ StepMove (Gather s m) → Behind topology before
 none_before topology before s m goes is =
@@ -114,7 +137,12 @@ none_before topology before s m goes is =
         (other_find (λ (u : SubNo). nat_lt 0 (due topology before u)) (λ u. StepMove (Ask u (due topology before u))) (all_subs topology before) (λ u. refl)) idle.rest in
     let dispatches = passed (when (λ spec. allows topology before (Dispatch spec.no)) (λ spec. StepMove (Dispatch spec.no)) topology.stages) (from_closes topology before) s m
         (other_find (λ (spec : StageSpec). allows topology before (Dispatch spec.no)) (λ spec. StepMove (Dispatch spec.no)) topology.stages (λ spec. refl)) asks.rest in
-    record { drained = drained.none; restarts = restarts.none; sources = sources.none; limit = limit.none; dispatches = dispatches.none }
+    let closes = passed (closable topology before topology.stages) (from_gathers topology before) s m (other_closable topology before topology.stages) dispatches.rest in
+    record { closes = closes.none; drained = drained.none; restarts = restarts.none; sources = sources.none; limit = limit.none; dispatches = dispatches.none }
+
+-- nothing closed before it
+pub behind_closes : (topology : Topology) (before : History) (s : StageNo) (m : MsgNo) → is_legal topology (Gather s m ∷ before) ≡ true → move topology before ≡ StepMove (Gather s m) → closable topology before topology.stages ≡ None
+behind_closes topology before s m legal next = (none_before topology before s m (unhalted topology before s m (legal_step topology before (Gather s m) legal)) next).closes
 
 -- A gather changes none of these
 

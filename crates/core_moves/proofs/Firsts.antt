@@ -32,7 +32,7 @@ use Rattle.core_tables.specs.declared.rows.Totals.{Totals}
 use Rattle.core_state.specs.declared.state.Core.{Core}
 use Rattle.core_state.specs.Stands.{Stands}
 use Rattle.core_rows.proofs.Fetched.{role_is}
-use Rattle.core_rows.proofs.Known.{row_within}
+use Rattle.stage_laws.proofs.Numbering.{numbered_topology}
 
 -- the close of a batch that begins with the message, where a trigger holds
 abbrev close_of : StageNo → ℕ → Option Trigger → Option Move
@@ -269,10 +269,10 @@ none_elsewhere topology before spec there legal other = by (is_empty (gathered_i
     by true e = e
     by false e = clash (has_role topology spec.no is_batcher_role) (gathered_role topology before spec.no legal e) (role_is topology spec is_batcher_role there ∙ other)
 
-pub held_here : (core : Core) (spec : StageSpec) (held : Batches) → Stands core → spec_of core.topology spec.no ≡ Some spec → held ≡ get_or core.batchers.items spec.no.0 held → IsHeld core spec.no held
-held_here core spec held x there read =
-    held_by core spec.no spec held x there
-    (slice_get_read core.batchers.items (length core.batchers.items) spec.no.0 held refl (omega (arith, row_within core.topology spec x.holds.sound there, x.holds.fields.sized.batchers)) read)
+pub held_at : (core : Core) (s : StageNo) (spec : StageSpec) (held : Batches) → Stands core → spec_of core.topology s ≡ Some spec → held ≡ get_or core.batchers.items s.0 held → IsHeld core s held
+held_at core s spec held x there read =
+    held_by core s spec held x there
+    (slice_get_read core.batchers.items (length core.batchers.items) s.0 held refl (omega (arith, ((numbered_topology core.topology x.holds.sound).within s spec there).1, x.holds.fields.sized.batchers)) read)
 
 -- Stages in order
 

@@ -7,3 +7,4 @@ pub mod Firsts
 pub mod Chain
 pub mod Waiting
 pub mod Behind
+pub mod Elsewhere

@@ -2,9 +2,9 @@
 
 ghost use Rattle.std.specs.Prelude.{◌≡◌, true, Some, option_map};
 ghost use Rattle.pipe_types.specs.Stages.{spec_of};
-ghost use Rattle.pipe_model.specs.{Legal.{is_batcher_role}, Moves.{closable, first_closable}, Standing.{gathered_in}};
+ghost use Rattle.pipe_model.specs.{Legal.{has_role, is_batcher_role}, Moves.{closable, first_closable}, Standing.{gathered_in}};
 ghost use Rattle.core_state.specs.Stands.{Stands};
-ghost use Rattle.core_moves.specs.Closes.{closing_move};
+ghost use Rattle.core_moves.specs.{Closes.{closing_move}, Behind.{BehindGather}};
 
 use core_rows::rests::is_dry;
 use core_state::Core;
@@ -51,6 +51,15 @@ fn is_batcher(role: Role) -> bool
     matches!(role, Role::Batcher)
 }
 
+/// The first open batch that may close right behind a gather of the batcher that was the next move: no other batcher has one.
+pub fn closing_behind(core: &Core, batcher: StageNo) -> Option<Closing>
+    requires stands { Stands core.now }
+    requires behind { BehindGather core.now.topology core.now.journal.steps batcher }
+    ensures { option_map closing_move result ≡ closable core.now.topology core.now.journal.steps core.now.topology.stages }
+{
+    closing_at(core, batcher)
+}
+
 /// The first open batch of the batcher that may close.
 fn closing_of(core: &Core, spec: &StageSpec) -> Option<Closing>
     requires stands { Stands core.now }
@@ -58,10 +67,18 @@ fn closing_of(core: &Core, spec: &StageSpec) -> Option<Closing>
     requires batcher { is_batcher_role spec.now.role ≡ true }
     ensures { option_map closing_move result ≡ first_closable core.now.topology core.now.journal.steps spec.now.no (gathered_in core.now.topology core.now.journal.steps spec.now.no) }
 {
-    let dry = is_dry(core, spec.no);
-    match core.batchers[spec.no.0 as usize].closable(core.totals.now, dry) {
+    closing_at(core, spec.no)
+}
+
+fn closing_at(core: &Core, batcher: StageNo) -> Option<Closing>
+    requires stands { Stands core.now }
+    requires role { has_role core.now.topology batcher is_batcher_role ≡ true }
+    ensures { option_map closing_move result ≡ first_closable core.now.topology core.now.journal.steps batcher (gathered_in core.now.topology core.now.journal.steps batcher) }
+{
+    let dry = is_dry(core, batcher);
+    match core.batchers[batcher.0 as usize].closable(core.totals.now, dry) {
         Some(found) => Some(Closing {
-            stage: spec.no,
+            stage: batcher,
             first: found.first,
             trigger: found.trigger,
         }),

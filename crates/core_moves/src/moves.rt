@@ -7,9 +7,9 @@ ghost use Rattle.pipe_model.specs.Moves.{move as next_move_of, move_or_pause, or
 ghost use Rattle.core_state.specs.Stands.{Stands};
 ghost use Rattle.core_rows.specs.Rows.{is_due};
 ghost use Rattle.core_moves.specs.Moves.{seen_as, found_as, cause_by, from_jobs, from_gathers, from_closes, from_dispatches, from_asks, from_drains, from_restarts};
-ghost use Rattle.core_moves.specs.Behind.{BehindGather, from_gathered};
+ghost use Rattle.core_moves.specs.Behind.{BehindGather};
 
-use crate::closes::{Closing, first_closing};
+use crate::closes::{Closing, closing_behind, first_closing};
 use crate::finds::{first_to_dispatch, first_to_gather, first_to_restart, last_with_job};
 use crate::gathers::first_unit;
 use core_rows::asks::first_due;
@@ -96,7 +96,10 @@ pub(crate) fn find_behind_gather(core: &Core, stage: StageNo) -> Found
     requires behind { BehindGather core.now.topology core.now.journal.steps stage }
     ensures { found_as result ≡ next_move_of core.now.topology core.now.journal.steps }
 {
-    ask_or_close(core)
+    match first_due(core) {
+        Some(sub) => ask_on(core, sub),
+        None => close_behind(core, stage),
+    }
 }
 
 /// The first move of a pipeline that has not halted.
@@ -180,18 +183,6 @@ fn ask_first(core: &Core) -> Found
     }
 }
 
-/// The first move from the asks on, but the dispatches.
-fn ask_or_close(core: &Core) -> Found
-    requires stands { Stands core.now }
-    requires going { happened is_halt core.now.journal.steps ≡ false }
-    ensures { found_as result ≡ move_or_pause (from_gathered core.now.topology core.now.journal.steps) }
-{
-    match first_due(core) {
-        Some(sub) => ask_on(core, sub),
-        None => close_first(core),
-    }
-}
-
 /// The ask that is due on the subscription.
 fn ask_on(core: &Core, sub: SubNo) -> Found
     requires stands { Stands core.now }
@@ -221,6 +212,18 @@ fn close_first(core: &Core) -> Found
     ensures { found_as result ≡ move_or_pause (from_closes core.now.topology core.now.journal.steps) }
 {
     match first_closing(core) {
+        Some(found) => Found::Close(found),
+        None => gather_first(core),
+    }
+}
+
+/// The first move from the closes on, right behind a gather of the stage that was the next move: no other batcher closes a batch.
+fn close_behind(core: &Core, stage: StageNo) -> Found
+    requires stands { Stands core.now }
+    requires behind { BehindGather core.now.topology core.now.journal.steps stage }
+    ensures { found_as result ≡ move_or_pause (from_closes core.now.topology core.now.journal.steps) }
+{
+    match closing_behind(core, stage) {
         Some(found) => Found::Close(found),
         None => gather_first(core),
     }
