@@ -34,8 +34,15 @@ use Rattle.pipe_laws.proofs.Tests.{clash, and_left, and_right}
 use Rattle.queue_laws.proofs.Laws.{waiting_law}
 use Rattle.core_rows.proofs.Fetched.{going}
 use Rattle.core_moves.specs.Moves.{from_gathers, from_closes, from_dispatches, from_asks, from_drains, from_restarts}
-use Rattle.core_moves.specs.Behind.{BehindGather, IsBehind, gathers_in, from_gathered}
+use Rattle.core_moves.specs.Behind.{BehindGather, IsBehind, gathers_in}
 use Rattle.core_moves.proofs.Chain.{find_same, on_is}
+
+-- an ask, or what comes from the closes on
+abbrev from_gathered : Topology → History → Option Move
+from_gathered topology before =
+    or_else
+    (option_map (λ u. StepMove (Ask u (due topology before u))) (find (λ u. nat_lt 0 (due topology before u)) (all_subs topology before)))
+    (from_closes topology before)
 
 -- Nothing halted before a gather, and nothing was owed
 

@@ -1,8 +1,8 @@
 -- Right behind a gather that was the next move, only its batcher can close a batch.
 use Rattle.std.proofs.Common.{◌≡◌, ℕ, zero, suc, ◌+◌, ◌≤◌, List, [], ◌∷◌, ◌++◌, length, refl, ap, sym, ◌∙◌, subst, Bool, true, false, Option, None, Some, arith}
-use Rattle.std.specs.Prelude.{◌&&◌, ◌||◌, ◌==◌, not, if◌then◌else◌, filter, find, bytes_eq, option_map, nat_le}
+use Rattle.std.specs.Prelude.{◌&&◌, ◌||◌, ◌==◌, not, if◌then◌else◌, find, bytes_eq, option_map, nat_le}
 use Rattle.std.specs.List.{list_any}
-use Rattle.std.proofs.lemmas.Bool.{eqb-true, false_from_ne_true}
+use Rattle.std.proofs.lemmas.Bool.{eqb-true, eq-eqb, false_from_ne_true}
 use Rattle.std.proofs.lemmas.Bool.Decides.{nat_tests}
 use Rattle.pipe_types.specs.declared.numbers.MsgNo.{MsgNo}
 use Rattle.pipe_types.specs.declared.numbers.StageNo.{StageNo}
@@ -21,7 +21,7 @@ use Rattle.pipe_model.specs.History.{History, now, accepted}
 use Rattle.pipe_model.specs.Content.{content, key_in, gathers}
 use Rattle.pipe_model.specs.Flow.{place, view_of, gathered, closing, first_in, is_gathered_in}
 use Rattle.pipe_model.specs.Legal.{is_legal, has_role, is_batcher_role, is_early_role, happened, is_drain, is_before, none_before, is_no_fetch_out, is_dry, ends_in_flush, gathered_at, batch_size_in, batch_timeout_in, trigger_of}
-use Rattle.pipe_model.specs.Moves.{Move, StepMove, or_else, first_closable, closable, move}
+use Rattle.pipe_model.specs.Moves.{Move, StepMove, or_else, first_closable, closable}
 use Rattle.pipe_model.specs.Standing.{gathered_in, of_key}
 use Rattle.pipe_laws.proofs.Tests.{clash, and_left, same_stage-true}
 use Rattle.pipe_laws.proofs.Lists.{Each, each_always, each_weaker, each_filter}
@@ -152,7 +152,7 @@ twice false None = refl
 twice false (Some move) = refl
 
 flip : (s t : StageNo) → same_stage s t ≡ false → same_stage t s ≡ false
-flip s t h = grind (arith, nat_tests)
+flip s t h = false_from_ne_true (same_stage t s) (λ e. clash (same_stage s t) (eq-eqb s.0 t.0 (sym (ap (λ (q : StageNo). q.0) (same_stage-true t s e)))) h)
 
 any_found : (test : StageSpec → Bool) (specs : List StageSpec) (spec : StageSpec) → find test specs ≡ Some spec → list_any test specs ≡ true
 any_found test [] spec h = cc
