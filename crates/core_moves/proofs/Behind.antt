@@ -38,7 +38,7 @@ use Rattle.core_moves.specs.Behind.{BehindGather, IsBehind, gathers_in}
 use Rattle.core_moves.proofs.Chain.{find_same, on_is}
 
 -- an ask, or what comes from the closes on
-abbrev from_gathered : Topology → History → Option Move
+abbrev pub from_gathered : Topology → History → Option Move
 from_gathered topology before =
     or_else
     (option_map (λ u. StepMove (Ask u (due topology before u))) (find (λ u. nat_lt 0 (due topology before u)) (all_subs topology before)))
