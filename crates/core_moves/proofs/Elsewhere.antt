@@ -133,10 +133,10 @@ first_kept topology before s x m (n ∷ ns) early other some same none =
     (first_kept topology before s x m ns early other some same none i))
     ∙ sym (closed_by topology before x n ns numbers (open_law topology before x key)))
   where
-    abbrev key : List ℕ
+    key : List ℕ
     key = key_in (content before n)
 
-    abbrev numbers : List ℕ
+    numbers : List ℕ
     numbers = of_key before key (gathered_in topology before x)
 
 -- Batchers in order
@@ -169,13 +169,13 @@ closes_in topology before s m legal [] none = refl
 closes_in topology before s m legal (spec ∷ specs) none =
     by (same_stage spec.no s) refl (closes_in topology before s m legal specs parts.1)
   where
-    abbrev after : History
+    after : History
     after = Gather s m ∷ before
 
-    abbrev here : Option Move
+    here : Option Move
     here = first_closable topology after s (gathered_in topology after s)
 
-    abbrev others : Bool
+    others : Bool
     others = list_any (λ (q : StageSpec). same_stage q.no s) specs
 
     parts : (first_closable topology before spec.no (gathered_in topology before spec.no) ≡ None) × (closable topology before specs ≡ None)
