@@ -133,17 +133,17 @@ none_before : (topology : Topology) (before : History) (s : StageNo) (m : MsgNo)
 none_before topology before s m goes is =
     let drained = passed (if_so (is_drained topology before) Drained) (from_restarts topology before) s m (other_if (is_drained topology before) Drained refl) (on_is topology before goes ∙ is) in
     let restarts = passed (when (λ spec. needs_restart topology before spec.no && no_post_out topology before spec.no) (λ spec. StepMove (if may_restart topology before spec.no then Restart spec.no else Halt)) topology.stages) (from_drains topology before) s m
-        (other_find (λ (spec : StageSpec). needs_restart topology before spec.no && no_post_out topology before spec.no) (λ spec. StepMove (if may_restart topology before spec.no then Restart spec.no else Halt)) topology.stages (λ spec. other_restart (may_restart topology before spec.no) spec.no)) drained.rest in
+    (other_find (λ (spec : StageSpec). needs_restart topology before spec.no && no_post_out topology before spec.no) (λ spec. StepMove (if may_restart topology before spec.no then Restart spec.no else Halt)) topology.stages (λ spec. other_restart (may_restart topology before spec.no) spec.no)) drained.rest in
     let sources = passed (if_so (allows topology before (Drain Sources)) (StepMove (Drain Sources)))
-        (or_else (if_so (allows topology before (Drain Limit)) (StepMove (Drain Limit))) (or_else (if_so (allows topology before (Drain Idle)) (StepMove (Drain Idle))) (from_asks topology before))) s m
-        (other_if (allows topology before (Drain Sources)) (StepMove (Drain Sources)) refl) restarts.rest in
+    (or_else (if_so (allows topology before (Drain Limit)) (StepMove (Drain Limit))) (or_else (if_so (allows topology before (Drain Idle)) (StepMove (Drain Idle))) (from_asks topology before))) s m
+    (other_if (allows topology before (Drain Sources)) (StepMove (Drain Sources)) refl) restarts.rest in
     let limit = passed (if_so (allows topology before (Drain Limit)) (StepMove (Drain Limit))) (or_else (if_so (allows topology before (Drain Idle)) (StepMove (Drain Idle))) (from_asks topology before)) s m
-        (other_if (allows topology before (Drain Limit)) (StepMove (Drain Limit)) refl) sources.rest in
+    (other_if (allows topology before (Drain Limit)) (StepMove (Drain Limit)) refl) sources.rest in
     let idle = passed (if_so (allows topology before (Drain Idle)) (StepMove (Drain Idle))) (from_asks topology before) s m (other_if (allows topology before (Drain Idle)) (StepMove (Drain Idle)) refl) limit.rest in
     let asks = passed (option_map (λ u. StepMove (Ask u (due topology before u))) (find (λ u. nat_lt 0 (due topology before u)) (all_subs topology before))) (from_dispatches topology before) s m
-        (other_find (λ (u : SubNo). nat_lt 0 (due topology before u)) (λ u. StepMove (Ask u (due topology before u))) (all_subs topology before) (λ u. refl)) idle.rest in
+    (other_find (λ (u : SubNo). nat_lt 0 (due topology before u)) (λ u. StepMove (Ask u (due topology before u))) (all_subs topology before) (λ u. refl)) idle.rest in
     let dispatches = passed (when (λ spec. allows topology before (Dispatch spec.no)) (λ spec. StepMove (Dispatch spec.no)) topology.stages) (from_closes topology before) s m
-        (other_find (λ (spec : StageSpec). allows topology before (Dispatch spec.no)) (λ spec. StepMove (Dispatch spec.no)) topology.stages (λ spec. refl)) asks.rest in
+    (other_find (λ (spec : StageSpec). allows topology before (Dispatch spec.no)) (λ spec. StepMove (Dispatch spec.no)) topology.stages (λ spec. refl)) asks.rest in
     let closes = passed (closable topology before topology.stages) (from_gathers topology before) s m (other_closable topology before topology.stages) dispatches.rest in
     record { closes = closes.none; drained = drained.none; restarts = restarts.none; sources = sources.none; limit = limit.none; dispatches = dispatches.none }
 
@@ -222,7 +222,7 @@ pub behind_gather : (topology : Topology) (before : History) (s : StageNo) (m : 
 behind_gather topology before s m sound legal next =
     asks ∙ (idle ∙ (limit ∙ (sources ∙ (restarts ∙ (drained ∙ on_is topology after goes)))))
   where
-    abbrev after : History
+    after : History
     after = Gather s m ∷ before
 
     may : allows topology before (Gather s m) ≡ true
@@ -234,7 +234,7 @@ behind_gather topology before s m sound legal next =
     none : Behind topology before
     none = none_before topology before s m goes next
 
-    abbrev an_ask : Option Move
+    an_ask : Option Move
     an_ask = option_map (λ u. StepMove (Ask u (due topology after u))) (find (λ u. nat_lt 0 (due topology after u)) (all_subs topology after))
 
     same_dispatch : (spec : StageSpec) → allows topology after (Dispatch spec.no) ≡ allows topology before (Dispatch spec.no)

@@ -190,11 +190,11 @@ closes_in topology before s m legal (spec ∷ specs) none =
         ∙ (ap (or_else here) rest ∙ twice others here)
     by false e rest =
         let same : gathered_in topology after spec.no ≡ gathered_in topology before spec.no =
-            gathered_law topology before (Gather s m) spec.no legal ∙ ap (λ b. if b then gathered_in topology before spec.no ++ m.0 ∷ [] else gathered_in topology before spec.no) e in
+        gathered_law topology before (Gather s m) spec.no legal ∙ ap (λ b. if b then gathered_in topology before spec.no ++ m.0 ∷ [] else gathered_in topology before spec.no) e in
         let none_there : IsNoneOf m (gathered_in topology before spec.no) = subst (IsNoneOf m) same (none_elsewhere topology after s spec.no m (gather_moves topology before s m legal).is e) in
         let first : first_closable topology after spec.no (gathered_in topology after spec.no) ≡ None =
-            ap (first_closable topology after spec.no) same
-            ∙ (first_kept topology before s spec.no m (gathered_in topology before spec.no) facts.1 (flip spec.no s e) facts.0 same none_there ∙ parts.0) in
+        ap (first_closable topology after spec.no) same
+        ∙ (first_kept topology before s spec.no m (gathered_in topology before spec.no) facts.1 (flip spec.no s e) facts.0 same none_there ∙ parts.0) in
         ap (λ o. or_else o (closable topology after specs)) first ∙ rest
 
 -- no other batcher closes a batch
