@@ -1,9 +1,9 @@
 //! What a producer's source answers but records.
 
-ghost use Rattle.std.specs.Prelude.{◌≡◌, ◌∷◌, OnOk, OnErr, IsOk, IsTrue, ℕ, ◌<◌, ◌≤◌, true, length, slice_get, if◌then◌else◌, ◌==◌, ◌&&◌, not, option_map};
+ghost use Rattle.std.specs.Prelude.{◌≡◌, OnOk, IsOk, IsTrue, ℕ, ◌<◌, ◌≤◌, true, length, slice_get, if◌then◌else◌, ◌==◌, ◌&&◌, not, option_map};
 ghost use Rattle.pipe_model.specs.Legal.{allows};
 ghost use Rattle.core_tables.specs.Rows.{post_at, home};
-ghost use Rattle.core_state.specs.Stands.{Stands};
+ghost use Rattle.core_state.specs.{Appends.{Appended, Appends}, Stands.{Stands}};
 
 use core_state::{Core, MOST_DUE};
 use core_tables::posts::come_home;
@@ -20,9 +20,7 @@ pub fn quiet(core: &mut Core, stage: StageNo) -> Result<(), AllocError>
     requires stands { Stands core.old }
     requires legal { IsTrue (allows core.old.topology core.old.journal.steps (Step.Quiet stage)) }
     ensures ok { IsOk result }
-    ensures appended { core.new.journal.steps ≡ Step.Quiet stage ∷ core.old.journal.steps }
-    ensures topology { core.new.topology ≡ core.old.topology }
-    ensures stands { Stands core.new }
+    ensures appends { Appended (Step.Quiet stage) core.old core.new }
 {
     note_rest(&mut core.stages, stage);
     come_home(&mut core.posts, stage, 0);
@@ -38,10 +36,7 @@ pub fn source_end(core: &mut Core, stage: StageNo, how: SourceHow) -> Result<(),
     requires stands { Stands core.old }
     requires legal { IsTrue (allows core.old.topology core.old.journal.steps (Step.SourceEnd stage how)) }
     ensures producers { 1 ≤ stage.0 → IsOk result }
-    ensures appended { OnOk result (core.new.journal.steps ≡ Step.SourceEnd stage how ∷ core.old.journal.steps) }
-    ensures unchanged { OnErr result (core.new.journal.steps ≡ core.old.journal.steps) }
-    ensures topology { core.new.topology ≡ core.old.topology }
-    ensures stands { Stands core.new }
+    ensures appends { Appends result (Step.SourceEnd stage how) core.old core.new }
 {
     make_end_room(&mut core.journal, stage)?;
     note_end(&mut core.stages, stage);

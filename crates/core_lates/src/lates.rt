@@ -1,8 +1,8 @@
 //! The answer of a post whose stage was killed since.
 
-ghost use Rattle.std.specs.Prelude.{◌≡◌, ◌∷◌, IsOk, IsTrue};
+ghost use Rattle.std.specs.Prelude.{IsOk, IsTrue};
 ghost use Rattle.pipe_model.specs.Legal.{allows};
-ghost use Rattle.core_state.specs.Stands.{Stands};
+ghost use Rattle.core_state.specs.{Appends.{Appended}, Stands.{Stands}};
 ghost use Rattle.core_lates.specs.Lates.{is_plain};
 
 use crate::losses::{bytes_of, lose_new};
@@ -27,9 +27,7 @@ pub fn late(
     requires stands { Stands core.old }
     requires legal { IsTrue (allows core.old.topology core.old.journal.steps (Step.Late post.stage post.slot incarnation answer)) }
     ensures ok { IsOk result }
-    ensures appended { core.new.journal.steps ≡ Step.Late post.stage post.slot incarnation answer ∷ core.old.journal.steps }
-    ensures topology { core.new.topology ≡ core.old.topology }
-    ensures stands { Stands core.new }
+    ensures appends { Appended (Step.Late post.stage post.slot incarnation answer) core.old core.new }
 {
     note_late(core, post, incarnation, answer);
     Ok(())
@@ -39,9 +37,7 @@ pub fn late(
 fn note_late(core: &mut Core, post: Post, incarnation: u32, answer: LateAnswer)
     requires stands { Stands core.old }
     requires legal { IsTrue (allows core.old.topology core.old.journal.steps (Step.Late post.stage post.slot incarnation answer)) }
-    ensures appended { core.new.journal.steps ≡ Step.Late post.stage post.slot incarnation answer ∷ core.old.journal.steps }
-    ensures topology { core.new.topology ≡ core.old.topology }
-    ensures stands { Stands core.new }
+    ensures appends { Appended (Step.Late post.stage post.slot incarnation answer) core.old core.new }
 {
     match answer {
         LateAnswer::Records(records) => lose_records(core, post, incarnation, records),
@@ -58,9 +54,7 @@ fn note_late(core: &mut Core, post: Post, incarnation: u32, answer: LateAnswer)
 fn lose_records(core: &mut Core, post: Post, incarnation: u32, records: BytesList)
     requires stands { Stands core.old }
     requires legal { IsTrue (allows core.old.topology core.old.journal.steps (Step.Late post.stage post.slot incarnation (LateAnswer.Records records))) }
-    ensures appended { core.new.journal.steps ≡ Step.Late post.stage post.slot incarnation (LateAnswer.Records records) ∷ core.old.journal.steps }
-    ensures topology { core.new.topology ≡ core.old.topology }
-    ensures stands { Stands core.new }
+    ensures appends { Appended (Step.Late post.stage post.slot incarnation (LateAnswer.Records records)) core.old core.new }
 {
     let row = core.stages[post.stage.0 as usize];
     let why = row.dead.unwrap();
@@ -88,9 +82,7 @@ fn lose_records(core: &mut Core, post: Post, incarnation: u32, records: BytesLis
 fn end_source(core: &mut Core, post: Post, incarnation: u32, how: SourceHow)
     requires stands { Stands core.old }
     requires legal { IsTrue (allows core.old.topology core.old.journal.steps (Step.Late post.stage post.slot incarnation (LateAnswer.Source how))) }
-    ensures appended { core.new.journal.steps ≡ Step.Late post.stage post.slot incarnation (LateAnswer.Source how) ∷ core.old.journal.steps }
-    ensures topology { core.new.topology ≡ core.old.topology }
-    ensures stands { Stands core.new }
+    ensures appends { Appended (Step.Late post.stage post.slot incarnation (LateAnswer.Source how)) core.old core.new }
 {
     note_end(&mut core.stages, post.stage);
     come_home(&mut core.posts, post.stage, post.slot);
@@ -108,9 +100,7 @@ fn note_plain(core: &mut Core, post: Post, incarnation: u32, answer: LateAnswer)
     requires stands { Stands core.old }
     requires legal { IsTrue (allows core.old.topology core.old.journal.steps (Step.Late post.stage post.slot incarnation answer)) }
     requires plain { IsTrue (is_plain answer) }
-    ensures appended { core.new.journal.steps ≡ Step.Late post.stage post.slot incarnation answer ∷ core.old.journal.steps }
-    ensures topology { core.new.topology ≡ core.old.topology }
-    ensures stands { Stands core.new }
+    ensures appends { Appended (Step.Late post.stage post.slot incarnation answer) core.old core.new }
 {
     let Post { stage, slot } = post;
     come_home(&mut core.posts, stage, slot);

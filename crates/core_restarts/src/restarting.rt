@@ -1,9 +1,9 @@
 //! The restart of a stage.
 
-ghost use Rattle.std.specs.Prelude.{◌≡◌, ◌==◌, ◌∷◌, ◌<◌, ◌≤◌, ℕ, List, All, Some, IfSome, OnOk, OnErr, IsTrue, if◌then◌else◌, length, option_map, slice_get};
+ghost use Rattle.std.specs.Prelude.{◌≡◌, ◌==◌, ◌∷◌, ◌<◌, ◌≤◌, ℕ, List, All, Some, IfSome, IsTrue, if◌then◌else◌, length, option_map, slice_get};
 ghost use Rattle.pipe_model.specs.Legal.{allows};
 ghost use Rattle.restart_core.specs.Restarts.{RestartLimit as Limit, Remembers};
-ghost use Rattle.core_state.specs.Stands.{Stands, limit_seen};
+ghost use Rattle.core_state.specs.{Appends.{Appends}, Stands.{Stands, limit_seen}};
 
 use crate::renewing::{note_restart, renew_all};
 use core_state::limits::limit_of;
@@ -17,10 +17,7 @@ use std::alloc::AllocError;
 pub fn restart(core: &mut Core, stage: StageNo) -> Result<(), AllocError>
     requires stands { Stands core.old }
     requires legal { IsTrue (allows core.old.topology core.old.journal.steps (Step.Restart stage)) }
-    ensures appended { OnOk result (core.new.journal.steps ≡ Step.Restart stage ∷ core.old.journal.steps) }
-    ensures unchanged { OnErr result (core.new.journal.steps ≡ core.old.journal.steps) }
-    ensures topology { core.new.topology ≡ core.old.topology }
-    ensures stands { Stands core.new }
+    ensures appends { Appends result (Step.Restart stage) core.old core.new }
 {
     core.journal.reserve(MOST_DUE + 1)?;
     renew_all(&mut core.subs, &core.topology, &core.stages, stage);

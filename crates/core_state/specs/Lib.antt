@@ -4,3 +4,4 @@ pub mod Readings
 pub mod Begun
 pub mod AreNew
 pub mod Settles
+pub mod Appends

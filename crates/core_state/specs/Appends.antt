@@ -1,0 +1,29 @@
+-- What a call that appends a step does to the core.
+use Rattle.std.specs.Prelude.{◌≡◌, ◌∷◌, Result, Ok, Err}
+use Rattle.pipe_types.specs.declared.step.Step.{Step}
+use Rattle.pipe_model.specs.History.{History}
+use Rattle.core_state.specs.declared.state.Core.{Core}
+use Rattle.core_state.specs.Stands.{Stands}
+
+-- the journal came to this history, over the same topology, and the core stands
+pub record CameTo (history : History) (old new : Core) : Type 0 where
+  pub steps : new.journal.steps ≡ history
+  pub topology : new.topology ≡ old.topology
+  pub stands : Stands new
+
+-- it stayed where it was
+abbrev pub Unmoved : (old new : Core) → Type 0
+Unmoved old new = CameTo old.journal.steps old new
+
+-- it came to what the value says, or stayed where it was
+abbrev pub ComesTo : {T E : Type 0} → Result T E → (T → History) → (old new : Core) → Type 0
+ComesTo (Ok value) history old new = CameTo (history value) old new
+ComesTo (Err error) history old new = Unmoved old new
+
+-- the step was appended
+abbrev pub Appended : Step → (old new : Core) → Type 0
+Appended step old new = CameTo (step ∷ old.journal.steps) old new
+
+-- the step was appended, or the core stayed where it was
+abbrev pub Appends : {T E : Type 0} → Result T E → Step → (old new : Core) → Type 0
+Appends result step old new = ComesTo result (λ value. step ∷ old.journal.steps) old new
