@@ -21,6 +21,7 @@ pub fn quiet(core: &mut Core, stage: StageNo) -> Result<(), AllocError>
     requires legal { IsTrue (allows core.old.topology core.old.journal.steps (Step.Quiet stage)) }
     ensures ok { IsOk result }
     ensures appends { Appended (Step.Quiet stage) core.old core.new }
+    ensures stands { Stands core.new }
 {
     note_rest(&mut core.stages, stage);
     come_home(&mut core.posts, stage, 0);
@@ -37,6 +38,7 @@ pub fn source_end(core: &mut Core, stage: StageNo, how: SourceHow) -> Result<(),
     requires legal { IsTrue (allows core.old.topology core.old.journal.steps (Step.SourceEnd stage how)) }
     ensures producers { 1 ≤ stage.0 → IsOk result }
     ensures appends { Appends result (Step.SourceEnd stage how) core.old core.new }
+    ensures stands { Stands core.new }
 {
     make_end_room(&mut core.journal, stage)?;
     note_end(&mut core.stages, stage);

@@ -29,10 +29,8 @@ use Rattle.core_laws.proofs.Came.{flip}
 use Rattle.core_state.proofs.Ending.{row_changed}
 use Rattle.core_state.specs.declared.state.Core.{Core}
 use Rattle.core_state.specs.Room.{Roomy}
-use Rattle.core_state.specs.Appends.{Appended}
-use Rattle.core_state.specs.Stands.{Fields, Stands}
-use Rattle.core_state.proofs.Appending.{appended_by}
-use Rattle.core_state.proofs.Steps.{log_kept}
+use Rattle.core_state.specs.Stands.{Fields, Holds, Stands}
+use Rattle.core_state.proofs.Steps.{holds_after, unowed_after, log_kept}
 use Rattle.core_state.proofs.Homes.{post_home}
 use Rattle.core_lates.specs.Lates.{is_plain}
 use Rattle.core_lates.proofs.Leaving.{Leaves, Stays, left_fields, stays_changed}
@@ -130,7 +128,10 @@ source_fields core topology before s slot i how j rows posts x sound legal known
 
 -- A late answer owes no step
 
-pub late_appended : (core new : Core) (s : StageNo) (slot i : ℕ) (answer : LateAnswer) → Stands core → new.topology ≡ core.topology → new.journal.steps ≡ Late s slot i answer ∷ core.journal.steps
-    → allows core.topology core.journal.steps (Late s slot i answer) ≡ true → Fields new core.topology (Late s slot i answer ∷ core.journal.steps) → Roomy new core.topology (Late s slot i answer ∷ core.journal.steps) → new.journal.acked ≡ core.journal.acked → Appended (Late s slot i answer) core new
-late_appended core new s slot i answer x same written allowed fields room acked =
-    appended_by core new (Late s slot i answer) x same written allowed refl fields room (log_kept core (Late s slot i answer) new.journal.acked x.holds allowed refl refl acked)
+pub late_stands : (core new : Core) (s : StageNo) (slot i : ℕ) (answer : LateAnswer) → Holds core → new.topology ≡ core.topology → new.journal.steps ≡ Late s slot i answer ∷ core.journal.steps
+    → allows core.topology core.journal.steps (Late s slot i answer) ≡ true → Fields new core.topology (Late s slot i answer ∷ core.journal.steps) → Roomy new core.topology (Late s slot i answer ∷ core.journal.steps) → new.journal.acked ≡ core.journal.acked → Stands new
+late_stands core new s slot i answer x same written allowed fields room acked =
+    record {
+      holds = holds_after core new (Late s slot i answer) x same written allowed fields room (log_kept core (Late s slot i answer) new.journal.acked x allowed refl refl acked);
+      unowed = unowed_after new core.topology (Late s slot i answer) core.journal.steps same written refl;
+    }

@@ -3,9 +3,9 @@
 //! Such an answer settles nothing: its post comes home, and all else is as it was. The kill of the stage is owed then,
 //! and is the step that comes next.
 
-ghost use Rattle.std.specs.Prelude.{◌≡◌, ◌∷◌, Some, IsTrue};
+ghost use Rattle.std.specs.Prelude.{◌≡◌, Some, IsTrue};
 ghost use Rattle.pipe_model.specs.{Content.{has_crash}, Legal.{allows, owed, is_crash_of}};
-ghost use Rattle.core_state.specs.Stands.{Holds};
+ghost use Rattle.core_state.specs.{Appends.{Appended}, Stands.{Holds}};
 
 use core_state::Core;
 use core_tables::posts::come_home;
@@ -19,9 +19,8 @@ pub fn answer_crash(core: &mut Core, stage: StageNo, replies: ReplyList)
     requires holds { Holds core.old }
     requires legal { IsTrue (allows core.old.topology core.old.journal.steps (Step.Done stage replies)) }
     requires crash { IsTrue (has_crash replies) }
-    ensures appended { core.new.journal.steps ≡ Step.Done stage replies ∷ core.old.journal.steps }
+    ensures appends { Appended (Step.Done stage replies) core.old core.new }
     ensures owed { owed core.new.topology core.new.journal.steps ≡ Some (is_crash_of stage) }
-    ensures topology { core.new.topology ≡ core.old.topology }
     ensures holds { Holds core.new }
 {
     come_home(&mut core.posts, stage, 0);
@@ -34,9 +33,8 @@ pub fn answer_crash(core: &mut Core, stage: StageNo, replies: ReplyList)
 pub fn write_crash(core: &mut Core, stage: StageNo)
     requires holds { Holds core.old }
     requires legal { IsTrue (allows core.old.topology core.old.journal.steps (Step.Wrote stage 0 BatchEnd.Crashed)) }
-    ensures appended { core.new.journal.steps ≡ Step.Wrote stage 0 BatchEnd.Crashed ∷ core.old.journal.steps }
+    ensures appends { Appended (Step.Wrote stage 0 BatchEnd.Crashed) core.old core.new }
     ensures owed { owed core.new.topology core.new.journal.steps ≡ Some (is_crash_of stage) }
-    ensures topology { core.new.topology ≡ core.old.topology }
     ensures holds { Holds core.new }
 {
     come_home(&mut core.posts, stage, 0);

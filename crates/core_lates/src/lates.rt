@@ -28,6 +28,7 @@ pub fn late(
     requires legal { IsTrue (allows core.old.topology core.old.journal.steps (Step.Late post.stage post.slot incarnation answer)) }
     ensures ok { IsOk result }
     ensures appends { Appended (Step.Late post.stage post.slot incarnation answer) core.old core.new }
+    ensures stands { Stands core.new }
 {
     note_late(core, post, incarnation, answer);
     Ok(())
@@ -38,6 +39,7 @@ fn note_late(core: &mut Core, post: Post, incarnation: u32, answer: LateAnswer)
     requires stands { Stands core.old }
     requires legal { IsTrue (allows core.old.topology core.old.journal.steps (Step.Late post.stage post.slot incarnation answer)) }
     ensures appends { Appended (Step.Late post.stage post.slot incarnation answer) core.old core.new }
+    ensures stands { Stands core.new }
 {
     match answer {
         LateAnswer::Records(records) => lose_records(core, post, incarnation, records),
@@ -55,6 +57,7 @@ fn lose_records(core: &mut Core, post: Post, incarnation: u32, records: BytesLis
     requires stands { Stands core.old }
     requires legal { IsTrue (allows core.old.topology core.old.journal.steps (Step.Late post.stage post.slot incarnation (LateAnswer.Records records))) }
     ensures appends { Appended (Step.Late post.stage post.slot incarnation (LateAnswer.Records records)) core.old core.new }
+    ensures stands { Stands core.new }
 {
     let row = core.stages[post.stage.0 as usize];
     let why = row.dead.unwrap();
@@ -83,6 +86,7 @@ fn end_source(core: &mut Core, post: Post, incarnation: u32, how: SourceHow)
     requires stands { Stands core.old }
     requires legal { IsTrue (allows core.old.topology core.old.journal.steps (Step.Late post.stage post.slot incarnation (LateAnswer.Source how))) }
     ensures appends { Appended (Step.Late post.stage post.slot incarnation (LateAnswer.Source how)) core.old core.new }
+    ensures stands { Stands core.new }
 {
     note_end(&mut core.stages, post.stage);
     come_home(&mut core.posts, post.stage, post.slot);
@@ -101,6 +105,7 @@ fn note_plain(core: &mut Core, post: Post, incarnation: u32, answer: LateAnswer)
     requires legal { IsTrue (allows core.old.topology core.old.journal.steps (Step.Late post.stage post.slot incarnation answer)) }
     requires plain { IsTrue (is_plain answer) }
     ensures appends { Appended (Step.Late post.stage post.slot incarnation answer) core.old core.new }
+    ensures stands { Stands core.new }
 {
     let Post { stage, slot } = post;
     come_home(&mut core.posts, stage, slot);

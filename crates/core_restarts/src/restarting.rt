@@ -18,6 +18,7 @@ pub fn restart(core: &mut Core, stage: StageNo) -> Result<(), AllocError>
     requires stands { Stands core.old }
     requires legal { IsTrue (allows core.old.topology core.old.journal.steps (Step.Restart stage)) }
     ensures appends { Appends result (Step.Restart stage) core.old core.new }
+    ensures stands { Stands core.new }
 {
     core.journal.reserve(MOST_DUE + 1)?;
     renew_all(&mut core.subs, &core.topology, &core.stages, stage);

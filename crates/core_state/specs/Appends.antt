@@ -1,21 +1,19 @@
--- What a call that appends a step does to the core.
+-- What a call that appends a step does to the journal and the topology.
 use Rattle.std.specs.Prelude.{◌≡◌, ◌∷◌, Result, Ok, Err}
 use Rattle.pipe_types.specs.declared.step.Step.{Step}
 use Rattle.pipe_model.specs.History.{History}
 use Rattle.core_state.specs.declared.state.Core.{Core}
-use Rattle.core_state.specs.Stands.{Stands}
 
--- the journal came to this history, over the same topology, and the core stands
+-- the journal came to this history, over the same topology
 pub record CameTo (history : History) (old new : Core) : Type 0 where
   pub steps : new.journal.steps ≡ history
   pub topology : new.topology ≡ old.topology
-  pub stands : Stands new
 
--- it stayed where it was
+-- nothing came
 abbrev pub Unmoved : (old new : Core) → Type 0
 Unmoved old new = CameTo old.journal.steps old new
 
--- it came to what the value says, or stayed where it was
+-- at Ok the journal came to what the value says, at Err nothing came
 abbrev pub ComesTo : {T E : Type 0} → Result T E → (T → History) → (old new : Core) → Type 0
 ComesTo (Ok value) history old new = CameTo (history value) old new
 ComesTo (Err error) history old new = Unmoved old new
@@ -24,6 +22,6 @@ ComesTo (Err error) history old new = Unmoved old new
 abbrev pub Appended : Step → (old new : Core) → Type 0
 Appended step old new = CameTo (step ∷ old.journal.steps) old new
 
--- the step was appended, or the core stayed where it was
+-- at Ok the step was appended, at Err nothing came
 abbrev pub Appends : {T E : Type 0} → Result T E → Step → (old new : Core) → Type 0
 Appends result step old new = ComesTo result (λ value. step ∷ old.journal.steps) old new

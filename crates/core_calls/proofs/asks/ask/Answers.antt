@@ -1,12 +1,10 @@
-use Rattle.std.proofs.Common.{◌∷◌, ◌∙◌, ap, subst, refl}
+use Rattle.std.proofs.Common.{◌∷◌, ◌∙◌, ap, refl}
 use Rattle.pipe_types.specs.declared.step.Step.TheVariants.{Ask}
 use Rattle.pipe_model.specs.History.{History}
 use Rattle.pipe_model.specs.Legal.{allows}
 use Rattle.core_state.specs.declared.state.Core.{Core}
 use Rattle.core_state.proofs.Rooms.{room_due, room_beside}
-use Rattle.core_state.specs.Appends.{Appended}
-use Rattle.core_state.proofs.Appending.{appended_by, still_there}
-use Rattle.core_state.proofs.Steps.{log_kept}
+use Rattle.core_state.proofs.Steps.{holds_after, unowed_after, still_stands, log_kept}
 use Rattle.core_state.proofs.Asking.{asking, live_seen, due_seen, ask_fits, asked_fields}
 use Rattle.core_calls.proofs.asks.ask.Goals as goal
 
@@ -26,8 +24,8 @@ returns-clause-size c =
     let core = c.args.core.now in
     c.due-n.ensures ∙ due_seen core core.topology core.journal.steps c.args.sub c.requires.stands.holds.fields (asking core.topology core.journal.steps c.args.sub c.requires.legal).live
 
-pub returns-clause-appends : goal.returns-clause-appends
-returns-clause-appends c =
+pub returns-clause-stands : goal.returns-clause-stands
+returns-clause-stands c =
     let core = c.args.core.now in
     let u = c.args.sub in
     let x = c.requires.stands.holds in
@@ -40,9 +38,19 @@ returns-clause-appends c =
     let allowed = (ap (λ m. allows core.topology core.journal.steps (Ask u m)) size ∙ c.requires.legal) in
     let due = room_due core (Ask u n ∷ core.journal.steps) c.reserve.new.self.spare c.push_spare.new.self.spare x c.in_ok-reserve.ensures.room c.push_spare.ensures.spare in
     let room = room_beside core core-new (Ask u n) x allowed refl due refl refl refl refl refl refl refl in
-    subst (λ m. Appended (Ask u m) core core-new) size
-    (appended_by core core-new (Ask u n) c.requires.stands refl written allowed refl fields room
-    (log_kept core (Ask u n) c.push_spare.new.self.acked x allowed refl refl (c.push_spare.ensures.same_acked ∙ c.in_ok-reserve.ensures.same_acked)))
+    let holds = holds_after core core-new (Ask u n) x refl written allowed fields room
+    (log_kept core (Ask u n) c.push_spare.new.self.acked x allowed refl refl (c.push_spare.ensures.same_acked ∙ c.in_ok-reserve.ensures.same_acked)) in
+    record { holds = holds; unowed = unowed_after core-new core.topology (Ask u n) core.journal.steps refl written refl }
 
-pub returns-in_err-reserve-clause-appends : goal.returns-in_err-reserve-clause-appends
-returns-in_err-reserve-clause-appends c = still_there c.args.core.now c.reserve.new.self c.requires.stands c.reserve.ensures.same_steps c.reserve.ensures.spare c.reserve.ensures.same_acked
+pub returns-in_err-reserve-clause-stands : goal.returns-in_err-reserve-clause-stands
+returns-in_err-reserve-clause-stands c = still_stands c.args.core.now c.reserve.new.self c.requires.stands c.reserve.ensures.same_steps c.reserve.ensures.spare c.reserve.ensures.same_acked
+
+pub returns-clause-appends : goal.returns-clause-appends
+returns-clause-appends c =
+    let core = c.args.core.now in
+    let u = c.args.sub in
+    let size = c.due-n.ensures ∙ due_seen core core.topology core.journal.steps u c.requires.stands.holds.fields (asking core.topology core.journal.steps u c.requires.legal).live in
+    record {
+      steps = c.push_spare.ensures.written ∙ (ap (λ (h : History). Ask u c.due-n.result ∷ h) c.in_ok-reserve.ensures.same_steps ∙ ap (λ k. Ask u k ∷ core.journal.steps) size);
+      topology = refl;
+    }

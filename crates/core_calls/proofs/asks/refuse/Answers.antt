@@ -4,13 +4,12 @@ use Rattle.pipe_model.specs.History.{History, controls}
 use Rattle.core_tables.specs.declared.rows.Totals.{Totals}
 use Rattle.core_state.specs.declared.state.Core.{Core}
 use Rattle.core_state.proofs.Rooms.{room_due, room_beside}
-use Rattle.core_state.proofs.Appending.{appended_by, still_there}
-use Rattle.core_state.proofs.Steps.{log_kept}
+use Rattle.core_state.proofs.Steps.{holds_after, unowed_after, still_stands, log_kept}
 use Rattle.core_state.proofs.Ending.{refused_fields, controls_few}
 use Rattle.core_calls.proofs.asks.refuse.Goals as goal
 
-pub returns-clause-appends : goal.returns-clause-appends
-returns-clause-appends c =
+pub returns-clause-stands : goal.returns-clause-stands
+returns-clause-stands c =
     let core = c.args.core.now in
     let x = c.requires.stands.holds in
     let core-new : Core = record core { journal = c.push_spare.new.self; totals = record core.totals { controls = core.totals.controls + 1; quiet = 0 } } in
@@ -18,11 +17,12 @@ returns-clause-appends c =
     let fields = refused_fields core core.topology core.journal.steps c.args.line c.push_spare.new.self x.fields in
     let due = room_due core (Refuse c.args.line ∷ core.journal.steps) c.reserve.new.self.spare c.push_spare.new.self.spare x c.in_ok-reserve.ensures.room c.push_spare.ensures.spare in
     let room = room_beside core core-new (Refuse c.args.line) x c.requires.legal refl due refl refl refl refl refl refl refl in
-    appended_by core core-new (Refuse c.args.line) c.requires.stands refl written c.requires.legal refl fields room
-    (log_kept core (Refuse c.args.line) c.push_spare.new.self.acked x c.requires.legal refl refl (c.push_spare.ensures.same_acked ∙ c.in_ok-reserve.ensures.same_acked))
+    let holds = holds_after core core-new (Refuse c.args.line) x refl written c.requires.legal fields room
+    (log_kept core (Refuse c.args.line) c.push_spare.new.self.acked x c.requires.legal refl refl (c.push_spare.ensures.same_acked ∙ c.in_ok-reserve.ensures.same_acked)) in
+    record { holds = holds; unowed = unowed_after core-new core.topology (Refuse c.args.line) core.journal.steps refl written refl }
 
-pub returns-in_err-reserve-clause-appends : goal.returns-in_err-reserve-clause-appends
-returns-in_err-reserve-clause-appends c = still_there c.args.core.now c.reserve.new.self c.requires.stands c.reserve.ensures.same_steps c.reserve.ensures.spare c.reserve.ensures.same_acked
+pub returns-in_err-reserve-clause-stands : goal.returns-in_err-reserve-clause-stands
+returns-in_err-reserve-clause-stands c = still_stands c.args.core.now c.reserve.new.self c.requires.stands c.reserve.ensures.same_steps c.reserve.ensures.spare c.reserve.ensures.same_acked
 
 pub overflow_add-core : goal.overflow_add-core
 overflow_add-core c =

@@ -6,8 +6,7 @@ use Rattle.core_state.specs.declared.state.Core.{Core}
 use Rattle.core_laws.specs.Due.{due_steps}
 use Rattle.core_laws.proofs.Due.{quiet_due}
 use Rattle.core_state.proofs.Rooms.{room_beside}
-use Rattle.core_state.proofs.Appending.{appended_by}
-use Rattle.core_state.proofs.Steps.{log_kept}
+use Rattle.core_state.proofs.Steps.{holds_after, unowed_after, log_kept}
 use Rattle.core_state.proofs.Ending.{rested_fields, quiet_within, quiet_few}
 use Rattle.stage_laws.proofs.Numbering.{numbered_topology}
 use Rattle.core_calls.proofs.sources.quiet.Goals as goal
@@ -30,8 +29,8 @@ push_spare-requires c =
     let x = c.requires.stands.holds in
     omega (arith, quiet_due core.topology core.journal.steps c.args.stage x.sound x.legal c.requires.legal, x.room.steps)
 
-pub returns-clause-appends : goal.returns-clause-appends
-returns-clause-appends c =
+pub returns-clause-stands : goal.returns-clause-stands
+returns-clause-stands c =
     let core = c.args.core.now in
     let x = c.requires.stands.holds in
     let core-new : Core = record core { journal = c.push_spare.new.self; stages = c.note_rest.new.rows; posts = c.come_home.new.posts; totals = record core.totals { quiet = core.totals.quiet + 1 } } in
@@ -40,8 +39,9 @@ returns-clause-appends c =
     let due : due_steps core.topology (Quiet c.args.stage ∷ core.journal.steps) ≤ c.push_spare.new.self.spare =
     omega (arith, quiet_due core.topology core.journal.steps c.args.stage x.sound x.legal c.requires.legal, x.room.steps, c.push_spare.ensures.spare) in
     let room = room_beside core core-new (Quiet c.args.stage) x c.requires.legal refl due refl refl refl refl refl refl refl in
-    appended_by core core-new (Quiet c.args.stage) c.requires.stands refl written c.requires.legal refl fields room
-    (log_kept core (Quiet c.args.stage) c.push_spare.new.self.acked x c.requires.legal refl refl c.push_spare.ensures.same_acked)
+    let holds = holds_after core core-new (Quiet c.args.stage) x refl written c.requires.legal fields room
+    (log_kept core (Quiet c.args.stage) c.push_spare.new.self.acked x c.requires.legal refl refl c.push_spare.ensures.same_acked) in
+    record { holds = holds; unowed = unowed_after core-new core.topology (Quiet c.args.stage) core.journal.steps refl written refl }
 
 pub overflow_add-core : goal.overflow_add-core
 overflow_add-core c =

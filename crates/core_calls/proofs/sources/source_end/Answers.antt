@@ -4,8 +4,7 @@ use Rattle.pipe_model.specs.History.{History}
 use Rattle.core_state.specs.declared.state.Core.{Core}
 use Rattle.core_laws.specs.Due.{due_steps}
 use Rattle.core_state.proofs.Rooms.{room_beside, end_room}
-use Rattle.core_state.proofs.Appending.{appended_by, still_there}
-use Rattle.core_state.proofs.Steps.{log_kept}
+use Rattle.core_state.proofs.Steps.{holds_after, unowed_after, still_stands, log_kept}
 use Rattle.core_state.proofs.Ending.{ended_fields, end_within}
 use Rattle.stage_laws.proofs.Numbering.{numbered_topology}
 use Rattle.core_calls.proofs.sources.source_end.Goals as goal
@@ -28,8 +27,8 @@ push_spare-requires c =
     let x = c.requires.stands.holds in
     omega (arith, end_room core c.args.stage c.args.how c.make_end_room.new.journal.spare x c.requires.legal c.make_end_room.ensures.spare c.in_ok-make_end_room.ensures.room)
 
-pub returns-clause-appends : goal.returns-clause-appends
-returns-clause-appends c =
+pub returns-clause-stands : goal.returns-clause-stands
+returns-clause-stands c =
     let core = c.args.core.now in
     let x = c.requires.stands.holds in
     let core-new : Core = record core { journal = c.push_spare.new.self; stages = c.note_end.new.rows; posts = c.answer_fetch.new.posts; totals = record core.totals { quiet = 0 } } in
@@ -38,8 +37,9 @@ returns-clause-appends c =
     let due : due_steps core.topology (SourceEnd c.args.stage c.args.how ∷ core.journal.steps) ≤ c.push_spare.new.self.spare =
     omega (arith, end_room core c.args.stage c.args.how c.make_end_room.new.journal.spare x c.requires.legal c.make_end_room.ensures.spare c.in_ok-make_end_room.ensures.room, c.push_spare.ensures.spare) in
     let room = room_beside core core-new (SourceEnd c.args.stage c.args.how) x c.requires.legal refl due refl refl refl refl refl refl refl in
-    appended_by core core-new (SourceEnd c.args.stage c.args.how) c.requires.stands refl written c.requires.legal refl fields room
-    (log_kept core (SourceEnd c.args.stage c.args.how) c.push_spare.new.self.acked x c.requires.legal refl refl (c.push_spare.ensures.same_acked ∙ c.make_end_room.ensures.same_acked))
+    let holds = holds_after core core-new (SourceEnd c.args.stage c.args.how) x refl written c.requires.legal fields room
+    (log_kept core (SourceEnd c.args.stage c.args.how) c.push_spare.new.self.acked x c.requires.legal refl refl (c.push_spare.ensures.same_acked ∙ c.make_end_room.ensures.same_acked)) in
+    record { holds = holds; unowed = unowed_after core-new core.topology (SourceEnd c.args.stage c.args.how) core.journal.steps refl written refl }
 
-pub returns-in_err-make_end_room-clause-appends : goal.returns-in_err-make_end_room-clause-appends
-returns-in_err-make_end_room-clause-appends c = still_there c.args.core.now c.make_end_room.new.journal c.requires.stands c.make_end_room.ensures.same_steps c.make_end_room.ensures.spare c.make_end_room.ensures.same_acked
+pub returns-in_err-make_end_room-clause-stands : goal.returns-in_err-make_end_room-clause-stands
+returns-in_err-make_end_room-clause-stands c = still_stands c.args.core.now c.make_end_room.new.journal c.requires.stands c.make_end_room.ensures.same_steps c.make_end_room.ensures.spare c.make_end_room.ensures.same_acked

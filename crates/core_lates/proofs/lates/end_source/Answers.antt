@@ -3,7 +3,7 @@ use Rattle.pipe_types.specs.declared.step.LateAnswer.TheVariants.{Source}
 use Rattle.pipe_types.specs.declared.step.Step.TheVariants.{Late}
 use Rattle.core_state.specs.declared.state.Core.{Core}
 use Rattle.core_state.proofs.Rooms.{room_beside}
-use Rattle.core_lates.proofs.Answering.{post_of, source_fields, late_appended}
+use Rattle.core_lates.proofs.Answering.{post_of, source_fields, late_stands}
 use Rattle.core_lates.proofs.Rooms.{late_due, step_room, rest_room}
 use Rattle.core_lates.proofs.lates.end_source.Goals as goal
 
@@ -21,15 +21,15 @@ come_home-requires c =
     let known = post_of core.topology core.journal.steps c.args.post.stage c.args.post.slot c.args.incarnation (Source c.args.how) x.sound x.legal c.requires.legal in
     omega (arith, x.fields.sized.posts, known.within, known.low)
 
-pub returns-clause-appends : goal.returns-clause-appends
-returns-clause-appends c =
+pub returns-clause-stands : goal.returns-clause-stands
+returns-clause-stands c =
     let core = c.args.core.now in
     let s = c.args.post.stage in
     let slot = c.args.post.slot in
     let x = c.requires.stands.holds in
     let known = post_of core.topology core.journal.steps s slot c.args.incarnation (Source c.args.how) x.sound x.legal c.requires.legal in
     let core-new : Core = record core { journal = c.push_spare.new.self; stages = c.note_end.new.rows; posts = c.come_home.new.posts; totals = record core.totals { quiet = 0 } } in
-    late_appended core core-new s slot c.args.incarnation (Source c.args.how) c.requires.stands refl c.push_spare.ensures.written c.requires.legal
+    late_stands core core-new s slot c.args.incarnation (Source c.args.how) x refl c.push_spare.ensures.written c.requires.legal
     (source_fields core core.topology core.journal.steps s slot c.args.incarnation c.args.how c.push_spare.new.self c.note_end.new.rows c.come_home.new.posts x.fields x.sound x.legal known c.note_end.ensures.rows c.note_end.ensures.len c.come_home.ensures.posts c.come_home.ensures.len)
     (room_beside core core-new (Late s slot c.args.incarnation (Source c.args.how)) x c.requires.legal refl (rest_room core (Late s slot c.args.incarnation (Source c.args.how)) c.push_spare.new.self.spare x (late_due core s slot c.args.incarnation (Source c.args.how) x c.requires.legal) c.push_spare.ensures.spare) refl refl refl refl refl refl refl) c.push_spare.ensures.same_acked
 

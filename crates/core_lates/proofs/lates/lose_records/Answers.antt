@@ -12,7 +12,7 @@ use Rattle.core_tables.specs.Tables.{contents_up}
 use Rattle.core_state.specs.declared.state.Core.{Core}
 use Rattle.core_state.proofs.Rooms.{room_after}
 use Rattle.pipe_types.specs.declared.step.Step.TheVariants.{Late}
-use Rattle.core_lates.proofs.Answering.{late_appended}
+use Rattle.core_lates.proofs.Answering.{late_stands}
 use Rattle.core_lates.proofs.Rooms.{late_due, late_rows, step_room, rest_room}
 use Rattle.core_lates.proofs.Losing.{losing, death_read, Lose, lost_fields}
 use Rattle.core_lates.proofs.lates.lose_records.Goals as goal
@@ -72,8 +72,8 @@ overflow_add-core-2 c =
     let new : c.bytes_of-bytes.result ≡ bytes_in c.args.records = c.bytes_of-bytes.ensures ∙ ap bytes_in c.as_slice-2.ensures in
     omega (arith, known, new, b.bytes)
 
-pub returns-clause-appends : goal.returns-clause-appends
-returns-clause-appends c =
+pub returns-clause-stands : goal.returns-clause-stands
+returns-clause-stands c =
     let core = c.args.core.now in
     let s = c.args.post.stage in
     let slot = c.args.post.slot in
@@ -113,7 +113,7 @@ returns-clause-appends c =
     let counted : totals-new ≡ record core.totals { accepted = core.totals.accepted + length records; bytes = core.totals.bytes + bytes_in records; quiet = 0 } =
     ap (λ n. record core.totals { accepted = core.totals.accepted + n; bytes = core.totals.bytes + c.bytes_of-bytes.result; quiet = 0 }) count
     ∙ ap (λ n. record core.totals { accepted = core.totals.accepted + length records; bytes = core.totals.bytes + n; quiet = 0 }) bytes in
-    late_appended core core-new s slot i (Records records) c.requires.stands refl c.push_spare.ensures.written c.requires.legal
+    late_stands core core-new s slot i (Records records) x refl c.push_spare.ensures.written c.requires.legal
     (lost_fields core core.topology before s slot i why records c.push_spare.new.self c.come_home.new.posts c.lose_new.new.places c.mark_new.new.settled c.produce_new.new.producers c.content_new.new.contents totals-new
     x.fields x.sound x.legal b dead new counted)
     (room_after core core-new (Late s slot i (Records records)) x c.requires.legal refl (rest_room core (Late s slot i (Records records)) c.push_spare.new.self.spare x (late_due core s slot i (Records records) x c.requires.legal) c.push_spare.ensures.spare)

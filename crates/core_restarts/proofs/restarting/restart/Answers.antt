@@ -12,8 +12,7 @@ use Rattle.core_state.specs.declared.state.Core.{Core}
 use Rattle.core_state.specs.Readings.{lives_by}
 use Rattle.core_state.proofs.Reading.{live_by, incarnation_is}
 use Rattle.core_state.proofs.Rooms.{room_due, room_beside}
-use Rattle.core_state.proofs.Appending.{appended_by, still_there}
-use Rattle.core_state.proofs.Steps.{log_kept}
+use Rattle.core_state.proofs.Steps.{holds_after, unowed_after, still_stands, log_kept}
 use Rattle.core_restarts.specs.Renewals.{live_upto, begins, AreRenewed}
 use Rattle.core_restarts.proofs.Unbegun.{incarnation_room}
 use Rattle.core_restarts.proofs.Times.{restart_allowed}
@@ -74,8 +73,8 @@ note_time-requires-clause-latest c =
     let known = restart_allowed core c.args.stage c.requires.stands.holds c.requires.legal in
     subst (λ o. IfSome o (λ limit. All (λ t. t ≤ core.totals.now) limit.times)) (sym (ap (slice_get core.restarts.items) c.limit_of-limit.ensures ∙ known.at)) known.latest
 
-pub returns-clause-appends : goal.returns-clause-appends
-returns-clause-appends c =
+pub returns-clause-stands : goal.returns-clause-stands
+returns-clause-stands c =
     let core = c.args.core.now in
     let s = c.args.stage in
     let x = c.requires.stands.holds in
@@ -91,8 +90,9 @@ returns-clause-appends c =
     subst (λ k. Remembers limit (if k == l then core.totals.now ∷ restart_times core.topology core.journal.steps l else restart_times core.topology core.journal.steps l)) c.limit_of-limit.ensures known)) in
     let due = room_due core (Restart s ∷ core.journal.steps) c.reserve.new.self.spare c.push_spare.new.self.spare x c.in_ok-reserve.ensures.room c.push_spare.ensures.spare in
     let room = room_beside core core-new (Restart s) x c.requires.legal refl due refl refl refl refl refl refl refl in
-    appended_by core core-new (Restart s) c.requires.stands refl written c.requires.legal refl fields room
-    (log_kept core (Restart s) c.push_spare.new.self.acked x c.requires.legal refl refl (c.push_spare.ensures.same_acked ∙ c.in_ok-reserve.ensures.same_acked))
+    let holds = holds_after core core-new (Restart s) x refl written c.requires.legal fields room
+    (log_kept core (Restart s) c.push_spare.new.self.acked x c.requires.legal refl refl (c.push_spare.ensures.same_acked ∙ c.in_ok-reserve.ensures.same_acked)) in
+    record { holds = holds; unowed = unowed_after core-new core.topology (Restart s) core.journal.steps refl written refl }
 
-pub returns-in_err-reserve-clause-appends : goal.returns-in_err-reserve-clause-appends
-returns-in_err-reserve-clause-appends c = still_there c.args.core.now c.reserve.new.self c.requires.stands c.reserve.ensures.same_steps c.reserve.ensures.spare c.reserve.ensures.same_acked
+pub returns-in_err-reserve-clause-stands : goal.returns-in_err-reserve-clause-stands
+returns-in_err-reserve-clause-stands c = still_stands c.args.core.now c.reserve.new.self c.requires.stands c.reserve.ensures.same_steps c.reserve.ensures.spare c.reserve.ensures.same_acked
