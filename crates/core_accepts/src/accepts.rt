@@ -1,11 +1,11 @@
 //! Accepts: records become messages that wait in their producer.
 
-ghost use Rattle.std.specs.Prelude.{◌≡◌, ◌∷◌, ◌++◌, ◌+◌, ◌<◌, ◌≤◌, ◌^◌, length, OnOk, IsTrue};
+ghost use Rattle.std.specs.Prelude.{◌≡◌, ◌++◌, ◌+◌, ◌<◌, ◌≤◌, ◌^◌, length, OnOk, IsTrue};
 ghost use Rattle.pipe_model.specs.{History.{bytes_in}, Legal.{allows}};
 ghost use Rattle.core_laws.specs.Enrolled.{record_part, queued};
 ghost use Rattle.stage_buffer.specs.Waiting.{KeepsShape};
 ghost use Rattle.core_waits.specs.Waits.{free, free_at, shape_of, shape_for};
-ghost use Rattle.core_state.specs.Stands.{Holds, Stands};
+ghost use Rattle.core_state.specs.{Appends.{Appended, Unmoved}, Stands.{Holds, Stands}};
 ghost use Rattle.core_accepts.specs.Records.{HasParts};
 
 use core_state::{Core, MOST_DUE};
@@ -28,8 +28,7 @@ pub fn make_room(core: &mut Core, stage: StageNo, count: u32) -> Result<(), Allo
     requires known { stage.0 ≤ length core.old.topology.stages }
     ensures room { OnOk result (count ≤ free_at core.new.waiting.items stage) }
     ensures steps { OnOk result (1090 ≤ core.new.journal.spare) }
-    ensures unchanged { core.new.journal.steps ≡ core.old.journal.steps }
-    ensures topology { core.new.topology ≡ core.old.topology }
+    ensures unmoved { Unmoved core.old core.new }
     ensures inboxes { core.new.inboxes ≡ core.old.inboxes }
     ensures stands { Stands core.new }
 {
@@ -43,8 +42,7 @@ pub fn enroll(core: &mut Core, stage: StageNo, records: BytesList)
     requires holds { Holds core.old }
     requires legal { IsTrue (allows core.old.topology core.old.journal.steps (Step.Accept stage records)) }
     requires room { length records ≤ free_at core.old.waiting.items stage }
-    ensures appended { core.new.journal.steps ≡ Step.Accept stage records ∷ core.old.journal.steps }
-    ensures topology { core.new.topology ≡ core.old.topology }
+    ensures appends { Appended (Step.Accept stage records) core.old core.new }
     ensures holds { Holds core.new }
     ensures spare { core.old.journal.spare ≤ core.new.journal.spare + 1 }
     ensures inboxes { core.new.inboxes ≡ core.old.inboxes }

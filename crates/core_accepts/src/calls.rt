@@ -1,12 +1,12 @@
 //! The accept with the dispatch that it owes.
 
-ghost use Rattle.std.specs.Prelude.{◌≡◌, ◌∷◌, [], ◌≤◌, ◌||◌, ◌==◌, length, map, All, None, true, false, not, OnOk, OnErr, IfOk, IfErr, IsTrue};
+ghost use Rattle.std.specs.Prelude.{◌≡◌, ◌∷◌, [], ◌≤◌, ◌||◌, ◌==◌, length, map, All, None, true, false, not, OnOk, IfOk, IfErr, IsTrue};
 ghost use Rattle.pipe_types.specs.Stages.{spec_of};
 ghost use Rattle.pipe_model.specs.{Lives.{is_live}, Flow.{is_batcher}, Legal.{allows, owed, may_dispatch}};
 ghost use Rattle.core_tables.specs.Tables.{HasRoom as HasInboxRoom};
 ghost use Rattle.core_laws.specs.Enrolled.{record_part};
 ghost use Rattle.core_waits.specs.Waits.{free_at};
-ghost use Rattle.core_state.specs.Stands.{Holds, Stands};
+ghost use Rattle.core_state.specs.{Appends.{CameTo, ComesTo, Unmoved}, Stands.{Holds, Stands}};
 ghost use Rattle.core_sends.specs.Rooms.{planned};
 ghost use Rattle.core_accepts.specs.Records.{HasParts, is_over, and_dispatch};
 
@@ -30,10 +30,8 @@ pub fn accept(
 ) -> Result<(), (BytesList, AllocError)>
     requires stands { Stands core.old }
     requires legal { IsTrue (allows core.old.topology core.old.journal.steps (Step.Accept stage records)) }
-    ensures appended { OnOk result (core.new.journal.steps ≡ and_dispatch core.old.topology (Step.Accept stage records ∷ core.old.journal.steps) stage) }
-    ensures unchanged { OnErr result (core.new.journal.steps ≡ core.old.journal.steps) }
+    ensures comes { ComesTo result (and_dispatch core.old.topology (Step.Accept stage records ∷ core.old.journal.steps) stage) core.old core.new }
     ensures returned { IfErr result (λ refused. refused.0 ≡ records) }
-    ensures topology { core.new.topology ≡ core.old.topology }
     ensures stands { Stands core.new }
 {
     let sent = match prepare(core, stage, records.as_slice()) {
@@ -55,8 +53,7 @@ fn send_owed(core: &mut Core, stage: StageNo, sent: Vec<Sent>)
     requires planned { sent.items ≡ planned core.old.topology core.old.journal.steps stage [] }
     requires room { All (HasInboxRoom (length sent.items) core.old.inboxes.items) sent.items }
     requires spare { 1089 ≤ core.old.journal.spare }
-    ensures appended { core.new.journal.steps ≡ and_dispatch core.old.topology core.old.journal.steps stage }
-    ensures topology { core.new.topology ≡ core.old.topology }
+    ensures comes { CameTo (and_dispatch core.old.topology core.old.journal.steps stage) core.old core.new }
     ensures stands { Stands core.new }
 {
     if is_due(core, stage, &sent) {
@@ -72,8 +69,7 @@ fn prepare(core: &mut Core, stage: StageNo, records: &[Bytes]) -> Result<Vec<Sen
     ensures inboxes { IfOk result (λ sent. All (HasInboxRoom (length sent.items) core.new.inboxes.items) sent.items) }
     ensures room { OnOk result (length records.now ≤ free_at core.new.waiting.items stage) }
     ensures steps { OnOk result (1090 ≤ core.new.journal.spare) }
-    ensures unchanged { core.new.journal.steps ≡ core.old.journal.steps }
-    ensures topology { core.new.topology ≡ core.old.topology }
+    ensures unmoved { Unmoved core.old core.new }
     ensures stands { Stands core.new }
 {
     let Some(spec) = core.topology.stages.find(stage) else {

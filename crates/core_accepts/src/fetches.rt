@@ -1,9 +1,9 @@
 //! Fetches: a producer is asked for records.
 
-ghost use Rattle.std.specs.Prelude.{◌≡◌, ◌∷◌, ◌+◌, ◌≤◌, IfOk, OnOk, OnErr, IsTrue};
+ghost use Rattle.std.specs.Prelude.{◌≡◌, ◌+◌, ◌≤◌, IfOk, OnOk, IsTrue};
 ghost use Rattle.pipe_model.specs.Legal.{allows, bound as bound_in};
 ghost use Rattle.core_laws.specs.Due.{booked};
-ghost use Rattle.core_state.specs.{Room.{HaveRows}, Stands.{Stands}};
+ghost use Rattle.core_state.specs.{Appends.{Appended, Appends, Unmoved}, Room.{HaveRows}, Stands.{Stands}};
 ghost use Rattle.core_accepts.specs.Rooms.{pulled};
 
 use crate::limits::fetches_out;
@@ -25,9 +25,7 @@ pub fn fetch(core: &mut Core, stage: StageNo) -> Result<u32, AllocError>
     requires stands { Stands core.old }
     requires legal { IsTrue (allows core.old.topology core.old.journal.steps (Step.Fetch stage (bound_in core.old.topology core.old.journal.steps stage))) }
     ensures size { IfOk result (λ n. n ≡ bound_in core.old.topology core.old.journal.steps stage) }
-    ensures appended { IfOk result (λ n. core.new.journal.steps ≡ Step.Fetch stage n ∷ core.old.journal.steps) }
-    ensures unchanged { OnErr result (core.new.journal.steps ≡ core.old.journal.steps) }
-    ensures topology { core.new.topology ≡ core.old.topology }
+    ensures appends { Appends result (Step.Fetch stage (bound_in core.old.topology core.old.journal.steps stage)) core.old core.new }
     ensures stands { Stands core.new }
 {
     let n = bound(core, stage);
@@ -43,8 +41,7 @@ fn make_room(core: &mut Core, n: u32) -> Result<(), AllocError>
     ensures rows { OnOk result (HaveRows (booked core.old.topology core.old.journal.steps + n) core.new.places core.new.settled core.new.producers core.new.contents) }
     ensures log { OnOk result (booked core.old.topology core.old.journal.steps + n ≤ core.new.journal.acked.room) }
     ensures steps { OnOk result (1089 ≤ core.new.journal.spare) }
-    ensures unchanged { core.new.journal.steps ≡ core.old.journal.steps }
-    ensures topology { core.new.topology ≡ core.old.topology }
+    ensures unmoved { Unmoved core.old core.new }
     ensures stands { Stands core.new }
 {
     let rows = fetches_out(core) as usize + n as usize;
@@ -64,8 +61,7 @@ fn put_fetch(core: &mut Core, stage: StageNo, n: u32)
     requires rows { HaveRows (booked core.old.topology core.old.journal.steps + n) core.old.places core.old.settled core.old.producers core.old.contents }
     requires log { booked core.old.topology core.old.journal.steps + n ≤ core.old.journal.acked.room }
     requires steps { 1089 ≤ core.old.journal.spare }
-    ensures appended { core.new.journal.steps ≡ Step.Fetch stage n ∷ core.old.journal.steps }
-    ensures topology { core.new.topology ≡ core.old.topology }
+    ensures appends { Appended (Step.Fetch stage n) core.old core.new }
     ensures stands { Stands core.new }
 {
     let from = core.incarnation(stage);

@@ -1,9 +1,9 @@
 //! A batcher takes a message into an open batch.
 
-ghost use Rattle.std.specs.Prelude.{◌≡◌, ◌∷◌, IfOk, OnErr, IsTrue};
+ghost use Rattle.std.specs.Prelude.{◌≡◌, IfOk, IsTrue};
 ghost use Rattle.pipe_types.specs.Numbers.{message_no};
 ghost use Rattle.pipe_model.specs.{Flow.{inbox}, Legal.{allows, first_unit as first_number}};
-ghost use Rattle.core_state.specs.Stands.{Stands};
+ghost use Rattle.core_state.specs.{Appends.{Appends}, Stands.{Stands}};
 
 use crate::rows::{count_handled, drop_first, first_unit, join_open, place_gathered};
 use core_state::{Core, MOST_DUE};
@@ -17,9 +17,7 @@ pub fn gather(core: &mut Core, stage: StageNo) -> Result<MsgNo, AllocError>
     requires stands { Stands core.old }
     requires legal { IsTrue (allows core.old.topology core.old.journal.steps (Step.Gather stage (message_no (first_number (inbox core.old.topology core.old.journal.steps stage))))) }
     ensures first { IfOk result (λ no. no ≡ message_no (first_number (inbox core.old.topology core.old.journal.steps stage))) }
-    ensures appended { IfOk result (λ no. core.new.journal.steps ≡ Step.Gather stage no ∷ core.old.journal.steps) }
-    ensures unchanged { OnErr result (core.new.journal.steps ≡ core.old.journal.steps) }
-    ensures topology { core.new.topology ≡ core.old.topology }
+    ensures appends { Appends result (Step.Gather stage (message_no (first_number (inbox core.old.topology core.old.journal.steps stage)))) core.old core.new }
     ensures stands { Stands core.new }
 {
     core.journal.reserve(MOST_DUE + 1)?;

@@ -1,11 +1,11 @@
 //! A batch processor answers its batch.
 
-ghost use Rattle.std.specs.Prelude.{◌≡◌, ◌∷◌, ◌≤◌, ◌<◌, ◌==◌, ℕ, List, length, vec_capacity, false, IsOk, IsTrue};
+ghost use Rattle.std.specs.Prelude.{◌≡◌, ◌≤◌, ◌<◌, ◌==◌, ℕ, List, length, vec_capacity, false, IsOk, IsTrue};
 ghost use Rattle.pipe_types.specs.{declared.numbers.StageNo.{StageNo as Stage}, declared.message.Outcome.{Outcome as OutcomeSeen}};
 ghost use Rattle.pipe_types.specs.declared.message.BatchEnd.TheVariants.{Outcomes};
 ghost use Rattle.pipe_model.specs.Legal.{allows};
 ghost use Rattle.core_tables.specs.Tables.{room_at};
-ghost use Rattle.core_state.specs.Stands.{Stands};
+ghost use Rattle.core_state.specs.{Appends.{Appended}, Stands.{Stands}};
 ghost use Rattle.core_batches.specs.Writes.{IsAnswered};
 
 use crate::rows::count_handled;
@@ -31,8 +31,7 @@ pub fn wrote(
     requires legal { IsTrue (allows core.old.topology core.old.journal.steps (Step.Wrote stage bytes end)) }
     requires answered { IsAnswered end }
     ensures ok { IsOk result }
-    ensures appended { core.new.journal.steps ≡ Step.Wrote stage bytes end ∷ core.old.journal.steps }
-    ensures topology { core.new.topology ≡ core.old.topology }
+    ensures appends { Appended (Step.Wrote stage bytes end) core.old core.new }
     ensures stands { Stands core.new }
 {
     answer_leg(core, stage, end, bytes);
@@ -44,8 +43,7 @@ fn answer_leg(core: &mut Core, stage: StageNo, end: BatchEnd, bytes: u64)
     requires stands { Stands core.old }
     requires legal { IsTrue (allows core.old.topology core.old.journal.steps (Step.Wrote stage bytes end)) }
     requires answered { IsAnswered end }
-    ensures appended { core.new.journal.steps ≡ Step.Wrote stage bytes end ∷ core.old.journal.steps }
-    ensures topology { core.new.topology ≡ core.old.topology }
+    ensures appends { Appended (Step.Wrote stage bytes end) core.old core.new }
     ensures stands { Stands core.new }
 {
     let row = core.stages[stage.0 as usize];

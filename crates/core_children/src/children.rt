@@ -1,11 +1,11 @@
 //! The start of a child.
 
-ghost use Rattle.std.specs.Prelude.{◌≡◌, ◌∷◌, ◌≤◌, ◌<◌, ℕ, length, Some, None, is_some, true, IfOk, OnOk, OnErr, IsTrue};
+ghost use Rattle.std.specs.Prelude.{◌≡◌, ◌≤◌, ◌<◌, ℕ, length, Some, None, is_some, true, IfOk, OnOk, OnErr, IsTrue};
 ghost use Rattle.pipe_types.specs.declared.numbers.StageNo.{StageNo as Stage};
 ghost use Rattle.pipe_model.specs.{Content.{content}, Posts.{in_slot}, Flow.{inbox}, Legal.{allows, runs_number, first_unit}};
 ghost use Rattle.consumer_sup.specs.Children.{alive};
 ghost use Rattle.core_tables.specs.Tables.{queue_at, list_at, room_at};
-ghost use Rattle.core_state.specs.Stands.{Stands, Holds, child_at};
+ghost use Rattle.core_state.specs.{Appends.{Appended, Unmoved}, Stands.{Stands, Holds, child_at}};
 ghost use Rattle.core_laws.specs.Columns.{sub_first};
 ghost use Rattle.core_children.specs.{Slots.{slots_at}, Starts.{may_start_child}};
 
@@ -31,10 +31,9 @@ pub struct ChildWork {
 pub fn child_start(core: &mut Core, stage: StageNo) -> Result<ChildWork, AllocError>
     requires stands { Stands core.old }
     requires legal { IsTrue (may_start_child core.old.topology core.old.journal.steps stage) }
-    ensures appended { IfOk result (λ work. core.new.journal.steps ≡ Step.Child stage work.message.no work.slot ∷ core.old.journal.steps) }
+    ensures appended { IfOk result (λ work. Appended (Step.Child stage work.message.no work.slot) core.old core.new) }
     ensures message { IfOk result (λ work. content core.old.journal.steps work.message.no.0 ≡ Some work.message) }
-    ensures unchanged { OnErr result (core.new.journal.steps ≡ core.old.journal.steps) }
-    ensures topology { core.new.topology ≡ core.old.topology }
+    ensures unmoved { OnErr result (Unmoved core.old core.new) }
     ensures stands { Stands core.new }
 {
     match slot_again(&core.children, &core.posts, stage) {
@@ -48,10 +47,9 @@ fn run_again(core: &mut Core, stage: StageNo, slot: u16, no: MsgNo) -> Result<Ch
     requires stands { Stands core.old }
     requires legal { IsTrue (allows core.old.topology core.old.journal.steps (Step.Child stage no slot)) }
     requires again { IsTrue (runs_number core.old.topology core.old.journal.steps stage (in_slot core.old.journal.steps stage slot)) }
-    ensures appended { IfOk result (λ work. core.new.journal.steps ≡ Step.Child stage work.message.no work.slot ∷ core.old.journal.steps) }
+    ensures appended { IfOk result (λ work. Appended (Step.Child stage work.message.no work.slot) core.old core.new) }
     ensures message { IfOk result (λ work. content core.old.journal.steps work.message.no.0 ≡ Some work.message) }
-    ensures unchanged { OnErr result (core.new.journal.steps ≡ core.old.journal.steps) }
-    ensures topology { core.new.topology ≡ core.old.topology }
+    ensures unmoved { OnErr result (Unmoved core.old core.new) }
     ensures stands { Stands core.new }
 {
     let message = message_of(core, no.0)?;
@@ -68,10 +66,9 @@ fn run_first(core: &mut Core, stage: StageNo) -> Result<ChildWork, AllocError>
     requires least { 1 ≤ first_unit (inbox core.old.topology core.old.journal.steps stage) }
     requires accepted { is_some (content core.old.journal.steps (first_unit (inbox core.old.topology core.old.journal.steps stage))) ≡ true }
     requires legal { (no : MsgNo) (k : ℕ) → no.0 ≡ first_unit (inbox core.old.topology core.old.journal.steps stage) → k < length (slots_at core.old.children.items stage) → child_at core.old.children.items stage k ≡ None → IsTrue (allows core.old.topology core.old.journal.steps (Step.Child stage no k)) }
-    ensures appended { IfOk result (λ work. core.new.journal.steps ≡ Step.Child stage work.message.no work.slot ∷ core.old.journal.steps) }
+    ensures appended { IfOk result (λ work. Appended (Step.Child stage work.message.no work.slot) core.old core.new) }
     ensures message { IfOk result (λ work. content core.old.journal.steps work.message.no.0 ≡ Some work.message) }
-    ensures unchanged { OnErr result (core.new.journal.steps ≡ core.old.journal.steps) }
-    ensures topology { core.new.topology ≡ core.old.topology }
+    ensures unmoved { OnErr result (Unmoved core.old core.new) }
     ensures stands { Stands core.new }
 {
     let no = first_no(&core.inboxes, stage);
@@ -129,8 +126,7 @@ pub(crate) fn make_ready(core: &mut Core, stage: StageNo) -> Result<(), AllocErr
     ensures room { OnOk result (1 ≤ room_at core.new.chunks.items stage) }
     ensures spare { OnOk result (1089 ≤ core.new.journal.spare) }
     ensures tables { (core.new.inboxes ≡ core.old.inboxes) × (core.new.children ≡ core.old.children) }
-    ensures unchanged { core.new.journal.steps ≡ core.old.journal.steps }
-    ensures topology { core.new.topology ≡ core.old.topology }
+    ensures unmoved { Unmoved core.old core.new }
     ensures stands { Stands core.new }
 {
     make_slot_ready(core, stage)?;
@@ -143,8 +139,7 @@ fn make_slot_ready(core: &mut Core, stage: StageNo) -> Result<(), AllocError>
     requires within { stage.0 ≤ length core.old.topology.stages }
     ensures room { OnOk result (1 ≤ room_at core.new.chunks.items stage) }
     ensures tables { (core.new.inboxes ≡ core.old.inboxes) × (core.new.children ≡ core.old.children) }
-    ensures unchanged { core.new.journal.steps ≡ core.old.journal.steps }
-    ensures topology { core.new.topology ≡ core.old.topology }
+    ensures unmoved { Unmoved core.old core.new }
     ensures stands { Stands core.new }
 {
     make_chunk_room(&mut core.chunks, stage)

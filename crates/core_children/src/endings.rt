@@ -1,8 +1,8 @@
 //! The end of a child's run.
 
-ghost use Rattle.std.specs.Prelude.{◌≡◌, ◌∷◌, IsOk, IsTrue};
+ghost use Rattle.std.specs.Prelude.{◌≡◌, IsOk, IsTrue};
 ghost use Rattle.pipe_model.specs.Legal.{allows};
-ghost use Rattle.core_state.specs.Stands.{Stands, Holds};
+ghost use Rattle.core_state.specs.{Appends.{Appended}, Stands.{Stands, Holds}};
 
 use crate::ends::{
     has_crashed, leave_chunk, mark_of, place_after, put_mark, put_place, units_handled,
@@ -28,8 +28,7 @@ pub fn child_end(
     requires stands { Stands core.old }
     requires legal { IsTrue (allows core.old.topology core.old.journal.steps (Step.ChildEnd stage slot reply)) }
     ensures ok { IsOk result }
-    ensures appended { core.new.journal.steps ≡ Step.ChildEnd stage slot reply ∷ core.old.journal.steps }
-    ensures topology { core.new.topology ≡ core.old.topology }
+    ensures appends { Appended (Step.ChildEnd stage slot reply) core.old core.new }
     ensures stands { Stands core.new }
 {
     end_run(core, stage, slot, reply);
@@ -40,8 +39,7 @@ pub fn child_end(
 pub fn end_run(core: &mut Core, stage: StageNo, slot: u16, reply: Reply)
     requires holds { Holds core.old }
     requires legal { IsTrue (allows core.old.topology core.old.journal.steps (Step.ChildEnd stage slot reply)) }
-    ensures appended { core.new.journal.steps ≡ Step.ChildEnd stage slot reply ∷ core.old.journal.steps }
-    ensures topology { core.new.topology ≡ core.old.topology }
+    ensures appends { Appended (Step.ChildEnd stage slot reply) core.old core.new }
     ensures holds { Holds core.new }
 {
     let entry = core.journal.len();

@@ -1,8 +1,8 @@
 //! A child that starts in the slot that it is told.
 
-ghost use Rattle.std.specs.Prelude.{◌≡◌, ◌∷◌, ◌<◌, length, is_some, OnOk, OnErr, IsTrue};
+ghost use Rattle.std.specs.Prelude.{◌≡◌, ◌<◌, length, is_some, IsTrue};
 ghost use Rattle.pipe_model.specs.Legal.{allows};
-ghost use Rattle.core_state.specs.Stands.{Stands, child_at};
+ghost use Rattle.core_state.specs.{Appends.{Appends}, Stands.{Stands, child_at}};
 
 use crate::children::{first_sub, make_ready};
 use crate::starts::{start_again, start_at};
@@ -22,9 +22,7 @@ pub fn child_start_in(
 ) -> Result<(), AllocError>
     requires stands { Stands core.old }
     requires legal { IsTrue (allows core.old.topology core.old.journal.steps (Step.Child stage no slot)) }
-    ensures appended { OnOk result (core.new.journal.steps ≡ Step.Child stage no slot ∷ core.old.journal.steps) }
-    ensures unchanged { OnErr result (core.new.journal.steps ≡ core.old.journal.steps) }
-    ensures topology { core.new.topology ≡ core.old.topology }
+    ensures appends { Appends result (Step.Child stage no slot) core.old core.new }
     ensures stands { Stands core.new }
 {
     if is_taken(&core.children, stage, slot) {

@@ -1,10 +1,10 @@
 //! The commits of a child's start.
 
-ghost use Rattle.std.specs.Prelude.{◌≡◌, ◌∷◌, ◌≤◌, ◌<◌, ℕ, ◌==◌, if◌then◌else◌, slice_get, length, Some, None, IsTrue};
+ghost use Rattle.std.specs.Prelude.{◌≡◌, ◌≤◌, ◌<◌, ℕ, ◌==◌, if◌then◌else◌, slice_get, length, Some, None, IsTrue};
 ghost use Rattle.pipe_model.specs.{Posts.{in_slot}, Flow.{inbox}, Legal.{allows, runs_number}};
 ghost use Rattle.consumer_sup.specs.Children.{alive};
 ghost use Rattle.core_tables.specs.{Rows.{post_at}, Tables.{room_at}};
-ghost use Rattle.core_state.specs.Stands.{Holds, child_at};
+ghost use Rattle.core_state.specs.{Appends.{Appended}, Stands.{Holds, child_at}};
 ghost use Rattle.core_laws.specs.Columns.{sub_first};
 ghost use Rattle.core_takes.specs.Takes.{out_of};
 ghost use Rattle.core_children.specs.Slots.{slots_at};
@@ -24,8 +24,7 @@ pub fn start_again(core: &mut Core, stage: StageNo, slot: u16, no: MsgNo)
     requires legal { IsTrue (allows core.old.topology core.old.journal.steps (Step.Child stage no slot)) }
     requires again { IsTrue (runs_number core.old.topology core.old.journal.steps stage (in_slot core.old.journal.steps stage slot)) }
     requires spare { 1089 ≤ core.old.journal.spare }
-    ensures appended { core.new.journal.steps ≡ Step.Child stage no slot ∷ core.old.journal.steps }
-    ensures topology { core.new.topology ≡ core.old.topology }
+    ensures appends { Appended (Step.Child stage no slot) core.old core.new }
     ensures holds { Holds core.new }
 {
     put_child_out(&mut core.posts, &core.stages, stage, slot);
@@ -62,8 +61,7 @@ pub fn start_first(core: &mut Core, stage: StageNo, sub: SubNo, no: MsgNo) -> u1
     requires legal { (k : ℕ) → k < length (slots_at core.old.children.items stage) → child_at core.old.children.items stage k ≡ None → IsTrue (allows core.old.topology core.old.journal.steps (Step.Child stage no k)) }
     requires room { 1 ≤ room_at core.old.chunks.items stage }
     requires spare { 1089 ≤ core.old.journal.spare }
-    ensures appended { core.new.journal.steps ≡ Step.Child stage no result ∷ core.old.journal.steps }
-    ensures topology { core.new.topology ≡ core.old.topology }
+    ensures appends { Appended (Step.Child stage no result) core.old core.new }
     ensures holds { Holds core.new }
 {
     let slot = free_in(&core.children, stage);
@@ -81,8 +79,7 @@ pub fn start_at(core: &mut Core, stage: StageNo, sub: SubNo, no: MsgNo, slot: u1
     requires legal { IsTrue (allows core.old.topology core.old.journal.steps (Step.Child stage no slot)) }
     requires room { 1 ≤ room_at core.old.chunks.items stage }
     requires spare { 1089 ≤ core.old.journal.spare }
-    ensures appended { core.new.journal.steps ≡ Step.Child stage no slot ∷ core.old.journal.steps }
-    ensures topology { core.new.topology ≡ core.old.topology }
+    ensures appends { Appended (Step.Child stage no slot) core.old core.new }
     ensures holds { Holds core.new }
 {
     start_in(&mut core.children, stage, slot, no);

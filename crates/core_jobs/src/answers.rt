@@ -1,6 +1,6 @@
 //! The answers to jobs.
 
-ghost use Rattle.std.specs.Prelude.{◌≡◌, ◌∷◌, ◌≤◌, is_ok, OnOk, OnErr, IsOk, IsTrue};
+ghost use Rattle.std.specs.Prelude.{◌≡◌, ◌∷◌, ◌≤◌, is_ok, OnErr, IsOk, IsTrue};
 ghost use Rattle.pipe_types.specs.declared.step.Step.TheVariants.{Accept, Done, Wrote, ChildEnd};
 ghost use Rattle.pipe_model.specs.{Content.{has_crash}, Legal.{allows}};
 ghost use Rattle.core_accepts.specs.Records.{and_dispatch};
@@ -25,10 +25,8 @@ use std::alloc::AllocError;
 /// appended, and they are gone. Every other answer is appended, since its job made the room for it.
 pub fn record_answer(core: &mut RunCore, answer: Answer) -> Result<(), AllocError>
     requires legal { IsTrue (allows core.old.topology core.old.journal.steps (step_of answer.post answer.outcome)) }
-    ensures appended { OnOk result (core.new.journal.steps ≡ with_answer core.old.topology core.old.journal.steps answer.post answer.outcome) }
-    ensures unchanged { OnErr result (core.new.journal.steps ≡ core.old.journal.steps) }
+    ensures comes { ComesTo result (with_answer core.old.topology core.old.journal.steps answer.post answer.outcome) core.old core.new }
     ensures refused { 1 ≤ answer.post.stage.0 → OnErr result (IsTrue (brings_records answer.outcome)) }
-    ensures topology { core.new.topology ≡ core.old.topology }
 {
     let Answer {
         post: Post { stage, slot },
@@ -47,9 +45,7 @@ pub fn record_answer(core: &mut RunCore, answer: Answer) -> Result<(), AllocErro
 
 fn bring(core: &mut RunCore, stage: StageNo, records: BytesList) -> Result<(), AllocError>
     requires legal { IsTrue (allows core.old.topology core.old.journal.steps (Accept stage records)) }
-    ensures appended { OnOk result (core.new.journal.steps ≡ and_dispatch core.old.topology (Accept stage records ∷ core.old.journal.steps) stage) }
-    ensures unchanged { OnErr result (core.new.journal.steps ≡ core.old.journal.steps) }
-    ensures topology { core.new.topology ≡ core.old.topology }
+    ensures comes { ComesTo result (and_dispatch core.old.topology (Accept stage records ∷ core.old.journal.steps) stage) core.old core.new }
 {
     match accept(&mut core.state, stage, records) {
         Ok(()) => Ok(()),
@@ -60,8 +56,7 @@ fn bring(core: &mut RunCore, stage: StageNo, records: BytesList) -> Result<(), A
 fn reply(core: &mut RunCore, stage: StageNo, replies: ReplyList) -> Result<(), AllocError>
     requires legal { IsTrue (allows core.old.topology core.old.journal.steps (Done stage replies)) }
     ensures ok { IsOk result }
-    ensures appended { core.new.journal.steps ≡ and_kill (has_crash replies) stage (Done stage replies ∷ core.old.journal.steps) }
-    ensures topology { core.new.topology ≡ core.old.topology }
+    ensures comes { CameTo (and_kill (has_crash replies) stage (Done stage replies ∷ core.old.journal.steps)) core.old core.new }
 {
     if any_crashed(replies.as_slice()) {
         crash_chunk(core, stage, replies);
@@ -78,8 +73,7 @@ fn end_batch(
 ) -> Result<(), AllocError>
     requires legal { IsTrue (allows core.old.topology core.old.journal.steps (Wrote stage bytes end)) }
     ensures ok { IsOk result }
-    ensures appended { core.new.journal.steps ≡ and_kill (is_crashed_end end) stage (Wrote stage bytes end ∷ core.old.journal.steps) }
-    ensures topology { core.new.topology ≡ core.old.topology }
+    ensures comes { CameTo (and_kill (is_crashed_end end) stage (Wrote stage bytes end ∷ core.old.journal.steps)) core.old core.new }
 {
     if has_crashed(&end) {
         crash_batch(core, stage);
@@ -91,8 +85,7 @@ fn end_batch(
 fn end_child(core: &mut RunCore, stage: StageNo, slot: u16, reply: Reply) -> Result<(), AllocError>
     requires legal { IsTrue (allows core.old.topology core.old.journal.steps (ChildEnd stage slot reply)) }
     ensures ok { IsOk result }
-    ensures appended { core.new.journal.steps ≡ ChildEnd stage slot reply ∷ core.old.journal.steps }
-    ensures topology { core.new.topology ≡ core.old.topology }
+    ensures appends { Appended (ChildEnd stage slot reply) core.old core.new }
 {
     let_go(child_end(&mut core.state, stage, slot, reply))
 }

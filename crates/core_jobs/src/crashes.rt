@@ -29,8 +29,7 @@ pub(crate) fn has_crashed(end: &BatchEnd) -> bool
 pub(crate) fn crash_chunk(core: &mut RunCore, stage: StageNo, replies: ReplyList)
     requires legal { IsTrue (allows core.old.topology core.old.journal.steps (Done stage replies)) }
     requires crash { IsTrue (has_crash replies) }
-    ensures appended { core.new.journal.steps ≡ Kill stage Crash ∷ (Done stage replies ∷ core.old.journal.steps) }
-    ensures topology { core.new.topology ≡ core.old.topology }
+    ensures comes { CameTo (Kill stage Crash ∷ (Done stage replies ∷ core.old.journal.steps)) core.old core.new }
 {
     answer_crash(&mut core.state, stage, replies);
     kill_owed(&mut core.state, stage, Why::Crash);
@@ -39,8 +38,7 @@ pub(crate) fn crash_chunk(core: &mut RunCore, stage: StageNo, replies: ReplyList
 /// Appends that the handler crashed with its batch, and the kill that this owes. It takes no memory.
 pub(crate) fn crash_batch(core: &mut RunCore, stage: StageNo)
     requires legal { IsTrue (allows core.old.topology core.old.journal.steps (Wrote stage 0 Crashed)) }
-    ensures appended { core.new.journal.steps ≡ Kill stage Crash ∷ (Wrote stage 0 Crashed ∷ core.old.journal.steps) }
-    ensures topology { core.new.topology ≡ core.old.topology }
+    ensures comes { CameTo (Kill stage Crash ∷ (Wrote stage 0 Crashed ∷ core.old.journal.steps)) core.old core.new }
 {
     write_crash(&mut core.state, stage);
     kill_owed(&mut core.state, stage, Why::Crash);

@@ -1,6 +1,6 @@
 //! The steps that a pipeline takes of its own accord.
 
-ghost use Rattle.std.specs.Prelude.{◌≡◌, ◌∷◌, OnOk, OnErr, IsTrue};
+ghost use Rattle.std.specs.Prelude.{◌≡◌, IsTrue};
 ghost use Rattle.pipe_model.specs.Legal.{allows};
 ghost use Rattle.core_jobs.specs.Steps.{is_own_step};
 
@@ -19,9 +19,7 @@ use std::alloc::AllocError;
 pub fn own_step(core: &mut RunCore, step: Step) -> Result<(), AllocError>
     requires legal { IsTrue (allows core.old.topology core.old.journal.steps step) }
     requires own { IsTrue (is_own_step step) }
-    ensures appended { OnOk result (core.new.journal.steps ≡ step ∷ core.old.journal.steps) }
-    ensures unchanged { OnErr result (core.new.journal.steps ≡ core.old.journal.steps) }
-    ensures topology { core.new.topology ≡ core.old.topology }
+    ensures appends { Appends result (step) core.old core.new }
 {
     match step {
         Step::Ask { sub, .. } => {

@@ -1,9 +1,9 @@
 //! The calls that kill.
 
-ghost use Rattle.std.specs.Prelude.{◌≡◌, ◌∷◌, ◌+◌, ◌≤◌, length, true, OnOk, OnErr, IsOk, IsTrue};
+ghost use Rattle.std.specs.Prelude.{◌≡◌, ◌∷◌, ◌+◌, ◌≤◌, length, true, IsOk, IsTrue};
 ghost use Rattle.pipe_types.specs.{declared.numbers.StageNo.{StageNo as Stage}, declared.step.Step.TheVariants.{Kill as KillStep, Halt as HaltStep}};
 ghost use Rattle.pipe_model.specs.{Lives.{reason_in, kill_set}, Legal.{allows}};
-ghost use Rattle.core_state.specs.Stands.{Holds, Stands, totals_of};
+ghost use Rattle.core_state.specs.{Appends.{Appended, Appends}, Stands.{Holds, Stands, totals_of}};
 ghost use Rattle.core_deaths.specs.Reasons.{reason_at, is_killing};
 ghost use Rattle.core_laws.specs.Due.{due_steps};
 
@@ -23,8 +23,7 @@ pub fn kill(core: &mut Core, stage: StageNo, why: Why) -> Result<(), AllocError>
     requires stands { Stands core.old }
     requires legal { IsTrue (allows core.old.topology core.old.journal.steps (KillStep stage why)) }
     ensures ok { IsOk result }
-    ensures appended { core.new.journal.steps ≡ KillStep stage why ∷ core.old.journal.steps }
-    ensures topology { core.new.topology ≡ core.old.topology }
+    ensures appends { Appended (KillStep stage why) core.old core.new }
     ensures stands { Stands core.new }
 {
     kill_owed(core, stage, why);
@@ -35,9 +34,7 @@ pub fn kill(core: &mut Core, stage: StageNo, why: Why) -> Result<(), AllocError>
 pub fn halt(core: &mut Core) -> Result<(), AllocError>
     requires stands { Stands core.old }
     requires legal { IsTrue (allows core.old.topology core.old.journal.steps HaltStep) }
-    ensures appended { OnOk result (core.new.journal.steps ≡ HaltStep ∷ core.old.journal.steps) }
-    ensures unchanged { OnErr result (core.new.journal.steps ≡ core.old.journal.steps) }
-    ensures topology { core.new.topology ≡ core.old.topology }
+    ensures appends { Appends result (HaltStep) core.old core.new }
     ensures stands { Stands core.new }
 {
     core.journal.reserve(MOST_DUE + 1)?;
@@ -49,8 +46,7 @@ pub fn halt(core: &mut Core) -> Result<(), AllocError>
 pub fn kill_owed(core: &mut Core, stage: StageNo, why: Why)
     requires holds { Holds core.old }
     requires legal { IsTrue (allows core.old.topology core.old.journal.steps (KillStep stage why)) }
-    ensures appended { core.new.journal.steps ≡ KillStep stage why ∷ core.old.journal.steps }
-    ensures topology { core.new.topology ≡ core.old.topology }
+    ensures appends { Appended (KillStep stage why) core.old core.new }
     ensures stands { Stands core.new }
 {
     let mut reasons = [None; MOST_ROWS];
@@ -65,8 +61,7 @@ fn append_halt(core: &mut Core)
     requires holds { Holds core.old }
     requires legal { IsTrue (allows core.old.topology core.old.journal.steps HaltStep) }
     requires room { due_steps core.old.topology (HaltStep ∷ core.old.journal.steps) + 1 ≤ core.old.journal.spare }
-    ensures appended { core.new.journal.steps ≡ HaltStep ∷ core.old.journal.steps }
-    ensures topology { core.new.topology ≡ core.old.topology }
+    ensures appends { Appended (HaltStep) core.old core.new }
     ensures stands { Stands core.new }
 {
     let mut reasons = [None; MOST_ROWS];
@@ -85,8 +80,7 @@ fn append(core: &mut Core, step: Step, killed: &[Option<Why>], totals: Totals)
     requires killed { (s : Stage) → reason_at killed.now s ≡ reason_in (kill_set core.old.topology core.old.journal.steps step) s }
     requires totals { totals ≡ totals_of core.old.topology (step ∷ core.old.journal.steps) }
     requires room { due_steps core.old.topology (step ∷ core.old.journal.steps) + 1 ≤ core.old.journal.spare }
-    ensures appended { core.new.journal.steps ≡ step ∷ core.old.journal.steps }
-    ensures topology { core.new.topology ≡ core.old.topology }
+    ensures appends { Appended (step) core.old core.new }
     ensures stands { Stands core.new }
 {
     lose_held(core, killed);

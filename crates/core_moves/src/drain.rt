@@ -1,9 +1,9 @@
 //! The begin of the drain.
 
-ghost use Rattle.std.specs.Prelude.{◌≡◌, ◌<◌, ◌∷◌, OnOk, OnErr, IsTrue};
+ghost use Rattle.std.specs.Prelude.{◌≡◌, ◌<◌, IsTrue};
 ghost use Rattle.pipe_types.specs.declared.step.DrainCause.TheVariants.{Control};
 ghost use Rattle.pipe_model.specs.{History.{controls_after}, Legal.{allows}};
-ghost use Rattle.core_state.specs.Stands.{Stands};
+ghost use Rattle.core_state.specs.{Appends.{Appends}, Stands.{Stands}};
 
 use core_state::{Core, MOST_DUE};
 use pipe_types::step::{DrainCause, Step};
@@ -13,9 +13,7 @@ use std::alloc::AllocError;
 pub fn begin(core: &mut Core, cause: DrainCause) -> Result<(), AllocError>
     requires stands { Stands core.old }
     requires legal { IsTrue (allows core.old.topology core.old.journal.steps (Step.Drain cause)) }
-    ensures appended { OnOk result (core.new.journal.steps ≡ Step.Drain cause ∷ core.old.journal.steps) }
-    ensures unchanged { OnErr result (core.new.journal.steps ≡ core.old.journal.steps) }
-    ensures topology { core.new.topology ≡ core.old.topology }
+    ensures appends { Appends result (Step.Drain cause) core.old core.new }
     ensures stands { Stands core.new }
 {
     core.journal.reserve(MOST_DUE + 1)?;

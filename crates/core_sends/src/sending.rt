@@ -1,10 +1,10 @@
 //! The step that sends.
 
-ghost use Rattle.std.specs.Prelude.{◌≡◌, ◌∷◌, [], ◌+◌, ◌≤◌, ◌<◌, length, All, map, IsTrue, true, false, OnOk, OnErr};
+ghost use Rattle.std.specs.Prelude.{◌≡◌, [], ◌+◌, ◌≤◌, ◌<◌, length, All, map, IsTrue, true, false};
 ghost use Rattle.pipe_types.specs.Stages.{spec_of};
 ghost use Rattle.pipe_model.specs.{Flow.{is_batcher, kind_in}, Legal.{allows}};
 ghost use Rattle.core_tables.specs.Tables.{named, HasRoom};
-ghost use Rattle.core_state.specs.Stands.{Holds, Stands};
+ghost use Rattle.core_state.specs.{Appends.{Appended, Appends}, Stands.{Holds, Stands}};
 ghost use Rattle.core_sends.specs.Rooms.{planned, served_first};
 
 use crate::alone::{leave_served, note_alone};
@@ -45,8 +45,7 @@ pub fn send_messages(core: &mut Core, stage: StageNo, sent: Vec<Sent>)
     requires planned { sent.items ≡ planned core.old.topology core.old.journal.steps stage [] }
     requires room { All (HasRoom (length sent.items) core.old.inboxes.items) sent.items }
     requires spare { 1089 ≤ core.old.journal.spare }
-    ensures appended { core.new.journal.steps ≡ Step.Dispatch stage ∷ core.old.journal.steps }
-    ensures topology { core.new.topology ≡ core.old.topology }
+    ensures appends { Appended (Step.Dispatch stage) core.old core.new }
     ensures stands { Stands core.new }
     ensures spare { core.old.journal.spare ≤ core.new.journal.spare + 1 }
 {
@@ -73,9 +72,7 @@ pub fn dispatch_messages(core: &mut Core, stage: StageNo) -> Result<(), AllocErr
     requires stands { Stands core.old }
     requires messages { is_batcher (spec_of core.old.topology stage) ≡ false }
     requires legal { IsTrue (allows core.old.topology core.old.journal.steps (Step.Dispatch stage)) }
-    ensures appended { OnOk result (core.new.journal.steps ≡ Step.Dispatch stage ∷ core.old.journal.steps) }
-    ensures unchanged { OnErr result (core.new.journal.steps ≡ core.old.journal.steps) }
-    ensures topology { core.new.topology ≡ core.old.topology }
+    ensures appends { Appends result (Step.Dispatch stage) core.old core.new }
     ensures stands { Stands core.new }
 {
     let sent = plan(core, stage, &[])?;
@@ -100,9 +97,7 @@ fn send_batches(
     requires served { served ≡ served_first core.old.topology core.old.journal.steps stage }
     requires room { All (HasRoom (length sent.items) core.old.inboxes.items) sent.items }
     requires spare { 1089 ≤ core.old.journal.spare }
-    ensures appended { OnOk result (core.new.journal.steps ≡ Step.Dispatch stage ∷ core.old.journal.steps) }
-    ensures unchanged { OnErr result (core.new.journal.steps ≡ core.old.journal.steps) }
-    ensures topology { core.new.topology ≡ core.old.topology }
+    ensures appends { Appends result (Step.Dispatch stage) core.old core.new }
     ensures stands { Stands core.new }
 {
     let at = stage.0 as usize;
@@ -155,9 +150,7 @@ fn dispatch_batches(core: &mut Core, stage: StageNo) -> Result<(), AllocError>
     requires stands { Stands core.old }
     requires batches { is_batcher (spec_of core.old.topology stage) ≡ true }
     requires legal { IsTrue (allows core.old.topology core.old.journal.steps (Step.Dispatch stage)) }
-    ensures appended { OnOk result (core.new.journal.steps ≡ Step.Dispatch stage ∷ core.old.journal.steps) }
-    ensures unchanged { OnErr result (core.new.journal.steps ≡ core.old.journal.steps) }
-    ensures topology { core.new.topology ≡ core.old.topology }
+    ensures appends { Appends result (Step.Dispatch stage) core.old core.new }
     ensures stands { Stands core.new }
 {
     let planned = plan_batches(core, stage)?;
@@ -181,9 +174,7 @@ fn is_batcher_stage(topology: &Topology, stage: StageNo) -> bool
 pub fn dispatch(core: &mut Core, stage: StageNo) -> Result<(), AllocError>
     requires stands { Stands core.old }
     requires legal { IsTrue (allows core.old.topology core.old.journal.steps (Step.Dispatch stage)) }
-    ensures appended { OnOk result (core.new.journal.steps ≡ Step.Dispatch stage ∷ core.old.journal.steps) }
-    ensures unchanged { OnErr result (core.new.journal.steps ≡ core.old.journal.steps) }
-    ensures topology { core.new.topology ≡ core.old.topology }
+    ensures appends { Appends result (Step.Dispatch stage) core.old core.new }
     ensures stands { Stands core.new }
 {
     if is_batcher_stage(&core.topology, stage) {

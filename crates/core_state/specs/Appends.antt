@@ -13,9 +13,9 @@ pub record CameTo (history : History) (old new : Core) : Type 0 where
 abbrev pub Unmoved : (old new : Core) → Type 0
 Unmoved old new = CameTo old.journal.steps old new
 
--- at Ok the journal came to what the value says, at Err nothing came
-abbrev pub ComesTo : {T E : Type 0} → Result T E → (T → History) → (old new : Core) → Type 0
-ComesTo (Ok value) history old new = CameTo (history value) old new
+-- at Ok the journal came to this history, at Err nothing came
+abbrev pub ComesTo : {T E : Type 0} → Result T E → History → (old new : Core) → Type 0
+ComesTo (Ok value) history old new = CameTo history old new
 ComesTo (Err error) history old new = Unmoved old new
 
 -- the step was appended
@@ -24,4 +24,4 @@ Appended step old new = CameTo (step ∷ old.journal.steps) old new
 
 -- at Ok the step was appended, at Err nothing came
 abbrev pub Appends : {T E : Type 0} → Result T E → Step → (old new : Core) → Type 0
-Appends result step old new = ComesTo result (λ value. step ∷ old.journal.steps) old new
+Appends result step old new = ComesTo result (step ∷ old.journal.steps) old new

@@ -1,9 +1,9 @@
 //! Answers to what a processor took.
 
-ghost use Rattle.std.specs.Prelude.{◌≡◌, ◌∷◌, false, slice_get, IsOk, IsTrue};
+ghost use Rattle.std.specs.Prelude.{◌≡◌, false, slice_get, IsOk, IsTrue};
 ghost use Rattle.pipe_types.specs.Stages.{spec_of};
 ghost use Rattle.pipe_model.specs.{Content.{has_crash}, Flow.{has_batchers_in}, Legal.{allows}};
-ghost use Rattle.core_state.specs.Stands.{Stands, Holds};
+ghost use Rattle.core_state.specs.{Appends.{Appended}, Stands.{Stands, Holds}};
 ghost use Rattle.core_takes.specs.Replies.{parted, take_in};
 
 use crate::replies::{answer_all, clear_chunk, count_taken, mark_all, note_all, queue_passed};
@@ -28,8 +28,7 @@ pub fn answer(
     requires legal { IsTrue (allows core.old.topology core.old.journal.steps (Step.Done stage replies)) }
     requires calm { has_crash replies ≡ false }
     ensures ok { IsOk result }
-    ensures appended { core.new.journal.steps ≡ Step.Done stage replies ∷ core.old.journal.steps }
-    ensures topology { core.new.topology ≡ core.old.topology }
+    ensures appends { Appended (Step.Done stage replies) core.old core.new }
     ensures stands { Stands core.new }
 {
     answered(core, stage, replies);
@@ -41,8 +40,7 @@ fn answered(core: &mut Core, stage: StageNo, replies: ReplyList)
     requires holds { Holds core.old }
     requires legal { IsTrue (allows core.old.topology core.old.journal.steps (Step.Done stage replies)) }
     requires calm { has_crash replies ≡ false }
-    ensures appended { core.new.journal.steps ≡ Step.Done stage replies ∷ core.old.journal.steps }
-    ensures topology { core.new.topology ≡ core.old.topology }
+    ensures appends { Appended (Step.Done stage replies) core.old core.new }
     ensures holds { Holds core.new }
 {
     let passes_on = has_batchers(&core.topology, stage);

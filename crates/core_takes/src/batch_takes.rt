@@ -1,11 +1,11 @@
 //! The commit of a take of one batch, and the room for it.
 
-ghost use Rattle.std.specs.Prelude.{◌≡◌, ◌∷◌, ◌≤◌, ◌<◌, ◌==◌, if◌then◌else◌, drop, length, is_some, true, IsTrue, OnOk};
+ghost use Rattle.std.specs.Prelude.{◌≡◌, ◌≤◌, ◌<◌, ◌==◌, if◌then◌else◌, drop, length, is_some, true, IsTrue, OnOk};
 ghost use Rattle.pipe_types.specs.declared.numbers.StageNo.{StageNo as Stage};
 ghost use Rattle.pipe_model.specs.{Flow.{inbox, batch as batch_as}, Legal.{allows, has_role, is_batch_processor_role, first_unit}, Taken.{closed_as}};
 ghost use Rattle.core_tables.specs.Tables.{queue_at, room_at};
 ghost use Rattle.core_laws.specs.Columns.{closed_numbers};
-ghost use Rattle.core_state.specs.Stands.{Stands, Holds};
+ghost use Rattle.core_state.specs.{Appends.{Appended, Unmoved}, Stands.{Stands, Holds}};
 
 use crate::starts::put_job_out;
 use core_state::{Core, MOST_DUE};
@@ -24,8 +24,7 @@ pub fn start_batch(core: &mut Core, stage: StageNo, sub: SubNo, batch: u32)
     requires first { batch ≡ first_unit (inbox core.old.topology core.old.journal.steps stage) }
     requires ends { length (closed_numbers (closed_as core.old.topology core.old.journal.steps batch)) ≤ room_at core.old.ends.items stage }
     requires spare { 1089 ≤ core.old.journal.spare }
-    ensures appended { core.new.journal.steps ≡ Step.Take stage sub 1 ∷ core.old.journal.steps }
-    ensures topology { core.new.topology ≡ core.old.topology }
+    ensures appends { Appended (Step.Take stage sub 1) core.old core.new }
     ensures holds { Holds core.new }
 {
     drop_first(&mut core.inboxes, stage);
@@ -53,8 +52,7 @@ pub(crate) fn make_batch_ready(core: &mut Core, stage: StageNo, no: u32) -> Resu
     requires closed { is_some (batch_as core.old.topology core.old.journal.steps no) ≡ true }
     ensures ends { OnOk result (length (closed_numbers (closed_as core.new.topology core.new.journal.steps no)) ≤ room_at core.new.ends.items stage) }
     ensures spare { OnOk result (1089 ≤ core.new.journal.spare) }
-    ensures unchanged { core.new.journal.steps ≡ core.old.journal.steps }
-    ensures topology { core.new.topology ≡ core.old.topology }
+    ensures unmoved { Unmoved core.old core.new }
     ensures stands { Stands core.new }
 {
     make_ends_ready(core, stage, no)?;
@@ -67,8 +65,7 @@ fn make_ends_ready(core: &mut Core, stage: StageNo, no: u32) -> Result<(), Alloc
     requires within { stage.0 ≤ length core.old.topology.stages }
     requires closed { is_some (batch_as core.old.topology core.old.journal.steps no) ≡ true }
     ensures ends { OnOk result (length (closed_numbers (closed_as core.new.topology core.new.journal.steps no)) ≤ room_at core.new.ends.items stage) }
-    ensures unchanged { core.new.journal.steps ≡ core.old.journal.steps }
-    ensures topology { core.new.topology ≡ core.old.topology }
+    ensures unmoved { Unmoved core.old core.new }
     ensures stands { Stands core.new }
 {
     let count = core.batches[no as usize - 1].numbers.len();

@@ -1,11 +1,11 @@
 //! The commit of a take of messages.
 
-ghost use Rattle.std.specs.Prelude.{◌≡◌, ◌∷◌, ◌≤◌, ◌<◌, ℕ, ◌==◌, if◌then◌else◌, option_map, slice_get, length, true, IsTrue};
+ghost use Rattle.std.specs.Prelude.{◌≡◌, ◌≤◌, ◌<◌, ℕ, ◌==◌, if◌then◌else◌, option_map, slice_get, length, true, IsTrue};
 ghost use Rattle.pipe_types.specs.{declared.numbers.StageNo.{StageNo as Stage}, Stages.{spec_of}};
 ghost use Rattle.pipe_model.specs.{Flow.{first_in, has_batchers_in}, Legal.{allows, has_role, is_processor_role}};
 ghost use Rattle.core_tables.specs.{Rows.{post_at, taking}, Tables.{room_at}};
 ghost use Rattle.core_waits.specs.Waits.{free_at};
-ghost use Rattle.core_state.specs.Stands.{Holds};
+ghost use Rattle.core_state.specs.{Appends.{Appended}, Stands.{Holds}};
 ghost use Rattle.core_takes.specs.Takes.{take_of, out_of};
 
 use core_state::Core;
@@ -26,8 +26,7 @@ pub fn start(core: &mut Core, stage: StageNo, sub: SubNo, most: u32)
     requires room { most ≤ room_at core.old.chunks.items stage }
     requires queue { has_batchers_in (spec_of core.old.topology stage) ≡ true → most ≤ free_at core.old.waiting.items stage }
     requires spare { 1089 ≤ core.old.journal.spare }
-    ensures appended { core.new.journal.steps ≡ take_of core.old.topology core.old.journal.steps stage sub most ∷ core.old.journal.steps }
-    ensures topology { core.new.topology ≡ core.old.topology }
+    ensures appends { Appended (take_of core.old.topology core.old.journal.steps stage sub most) core.old core.new }
     ensures holds { Holds core.new }
 {
     start_chunk(

@@ -1,12 +1,12 @@
 //! The call that takes.
 
-ghost use Rattle.std.specs.Prelude.{◌≡◌, ◌≢◌, ◌≤◌, ◌<◌, ℕ, [], true, IfOk, OnOk, OnErr, IsTrue, length, take, is_some};
+ghost use Rattle.std.specs.Prelude.{◌≡◌, ◌≢◌, ◌≤◌, ◌<◌, ℕ, [], true, IfOk, OnOk, IsTrue, length, take, is_some};
 ghost use Rattle.pipe_types.specs.{declared.numbers.StageNo.{StageNo as Stage}, Stages.{spec_of}};
 ghost use Rattle.pipe_model.specs.{Jobs.{take_step, may_take_next, with_step}, Flow.{inbox, units_on, has_batchers_in, batch as batch_as}};
 ghost use Rattle.pipe_model.specs.{Legal.{has_role, is_batch_processor_role, is_processor_role, first_unit}, Work.{chunk_of}, Taken.{first_key, IsBatch, IsTaken}};
 ghost use Rattle.core_tables.specs.Tables.{queue_at, list_at, room_at};
 ghost use Rattle.core_waits.specs.Waits.{free_at};
-ghost use Rattle.core_state.specs.Stands.{Stands, Holds};
+ghost use Rattle.core_state.specs.{Appends.{ComesTo, Unmoved}, Stands.{Stands, Holds}};
 ghost use Rattle.core_laws.specs.Columns.{sub_first};
 ghost use Rattle.core_takes.specs.Takes.{most_of, IsChunk};
 
@@ -34,10 +34,8 @@ pub enum Chunk {
 pub fn take(core: &mut Core, stage: StageNo) -> Result<Chunk, AllocError>
     requires stands { Stands core.old }
     requires legal { IsTrue (may_take_next core.old.topology core.old.journal.steps stage) }
-    ensures appended { OnOk result (core.new.journal.steps ≡ with_step (take_step core.old.topology core.old.journal.steps stage) core.old.journal.steps) }
+    ensures comes { ComesTo result (with_step (take_step core.old.topology core.old.journal.steps stage) core.old.journal.steps) core.old core.new }
     ensures chunk { IfOk result (λ chunk. IsChunk core.new.topology core.new.journal.steps stage chunk) }
-    ensures unchanged { OnErr result (core.new.journal.steps ≡ core.old.journal.steps) }
-    ensures topology { core.new.topology ≡ core.old.topology }
     ensures stands { Stands core.new }
 {
     if takes_batches(&core.topology, stage) {
@@ -63,10 +61,8 @@ fn take_messages(core: &mut Core, stage: StageNo) -> Result<MessageList, AllocEr
     requires stands { Stands core.old }
     requires legal { IsTrue (may_take_next core.old.topology core.old.journal.steps stage) }
     requires processor { has_role core.old.topology stage is_processor_role ≡ true }
-    ensures appended { OnOk result (core.new.journal.steps ≡ with_step (take_step core.old.topology core.old.journal.steps stage) core.old.journal.steps) }
+    ensures comes { ComesTo result (with_step (take_step core.old.topology core.old.journal.steps stage) core.old.journal.steps) core.old core.new }
     ensures chunk { IfOk result (λ chunk. chunk ≡ chunk_of core.new.topology core.new.journal.steps stage) }
-    ensures unchanged { OnErr result (core.new.journal.steps ≡ core.old.journal.steps) }
-    ensures topology { core.new.topology ≡ core.old.topology }
     ensures stands { Stands core.new }
 {
     let sub = first_sub(&core.inboxes, stage);
@@ -83,10 +79,8 @@ fn take_batch(core: &mut Core, stage: StageNo) -> Result<Batch, AllocError>
     requires stands { Stands core.old }
     requires legal { IsTrue (may_take_next core.old.topology core.old.journal.steps stage) }
     requires processor { has_role core.old.topology stage is_batch_processor_role ≡ true }
-    ensures appended { OnOk result (core.new.journal.steps ≡ with_step (take_step core.old.topology core.old.journal.steps stage) core.old.journal.steps) }
+    ensures comes { ComesTo result (with_step (take_step core.old.topology core.old.journal.steps stage) core.old.journal.steps) core.old core.new }
     ensures batch { IfOk result (λ batch. IsTaken core.new.topology core.new.journal.steps stage batch) }
-    ensures unchanged { OnErr result (core.new.journal.steps ≡ core.old.journal.steps) }
-    ensures topology { core.new.topology ≡ core.old.topology }
     ensures stands { Stands core.new }
 {
     let sub = first_sub(&core.inboxes, stage);
@@ -200,8 +194,7 @@ fn make_ready(core: &mut Core, stage: StageNo, most: u32) -> Result<(), AllocErr
     ensures room { OnOk result (most ≤ room_at core.new.chunks.items stage) }
     ensures queue { OnOk result (has_batchers_in (spec_of core.new.topology stage) ≡ true → most ≤ free_at core.new.waiting.items stage) }
     ensures spare { OnOk result (1089 ≤ core.new.journal.spare) }
-    ensures unchanged { core.new.journal.steps ≡ core.old.journal.steps }
-    ensures topology { core.new.topology ≡ core.old.topology }
+    ensures unmoved { Unmoved core.old core.new }
     ensures stands { Stands core.new }
 {
     make_chunk_ready(core, stage, most)?;
@@ -214,8 +207,7 @@ fn make_chunk_ready(core: &mut Core, stage: StageNo, most: u32) -> Result<(), Al
     requires stands { Stands core.old }
     requires within { stage.0 ≤ length core.old.topology.stages }
     ensures room { OnOk result (most ≤ room_at core.new.chunks.items stage) }
-    ensures unchanged { core.new.journal.steps ≡ core.old.journal.steps }
-    ensures topology { core.new.topology ≡ core.old.topology }
+    ensures unmoved { Unmoved core.old core.new }
     ensures stands { Stands core.new }
 {
     make_chunk_room(&mut core.chunks, stage, most as usize)
@@ -227,8 +219,7 @@ fn make_queue_ready(core: &mut Core, stage: StageNo, most: u32) -> Result<(), Al
     requires within { stage.0 ≤ length core.old.topology.stages }
     ensures queue { OnOk result (has_batchers_in (spec_of core.old.topology stage) ≡ true → most ≤ free_at core.new.waiting.items stage) }
     ensures chunks { core.new.chunks ≡ core.old.chunks }
-    ensures unchanged { core.new.journal.steps ≡ core.old.journal.steps }
-    ensures topology { core.new.topology ≡ core.old.topology }
+    ensures unmoved { Unmoved core.old core.new }
     ensures stands { Stands core.new }
 {
     let passes_on = has_batchers(&core.topology, stage);

@@ -1,11 +1,11 @@
 //! Accepts, and what they owe.
 
-ghost use Rattle.std.specs.Prelude.{◌≡◌, ◌∷◌, [], ◌≤◌, ◌||◌, ◌==◌, not, true, IfOk, OnOk, OnErr, IsTrue, All, length};
+ghost use Rattle.std.specs.Prelude.{◌≡◌, [], ◌≤◌, ◌||◌, ◌==◌, not, true, IfOk, OnOk, OnErr, IsTrue, All, length};
 ghost use Rattle.pipe_model.specs.Legal.{allows, may_dispatch};
 ghost use Rattle.core_tables.specs.Tables.{HasRoom};
 ghost use Rattle.core_accepts.specs.Records.{is_over};
 ghost use Rattle.core_sends.specs.Rooms.{planned};
-ghost use Rattle.core_state.specs.Stands.{Stands, Holds};
+ghost use Rattle.core_state.specs.{Appends.{Appends, Unmoved}, Stands.{Stands, Holds}};
 ghost use Rattle.plain_run.specs.Owes.{OwesDispatch};
 
 use core_accepts::accepts::{enroll, make_room};
@@ -27,9 +27,7 @@ pub(crate) fn append_accept(
 ) -> Result<(), AllocError>
     requires stands { Stands core.old }
     requires legal { IsTrue (allows core.old.topology core.old.journal.steps (Step.Accept stage records)) }
-    ensures appended { OnOk result (core.new.journal.steps ≡ Step.Accept stage records ∷ core.old.journal.steps) }
-    ensures unchanged { OnErr result (core.new.journal.steps ≡ core.old.journal.steps) }
-    ensures topology { core.new.topology ≡ core.old.topology }
+    ensures appends { Appends result (Step.Accept stage records) core.old core.new }
     ensures holds { Holds core.new }
     ensures owes { OnOk result (OwesDispatch core.new.topology core.new.journal.steps stage) }
     ensures stands { OnErr result (Stands core.new) }
@@ -59,9 +57,7 @@ pub(crate) fn append_owed(
     requires owes { OwesDispatch core.old.topology core.old.journal.steps stage }
     requires planned { sent.items ≡ planned core.old.topology core.old.journal.steps stage [] }
     requires legal { IsTrue (allows core.old.topology core.old.journal.steps (Step.Dispatch stage)) }
-    ensures appended { OnOk result (core.new.journal.steps ≡ Step.Dispatch stage ∷ core.old.journal.steps) }
-    ensures unchanged { OnErr result (core.new.journal.steps ≡ core.old.journal.steps) }
-    ensures topology { core.new.topology ≡ core.old.topology }
+    ensures appends { Appends result (Step.Dispatch stage) core.old core.new }
     ensures holds { Holds core.new }
     ensures stands { OnOk result (Stands core.new) }
 {
@@ -77,8 +73,7 @@ fn make_owed_room(core: &mut Core, stage: StageNo, sent: &[Sent]) -> Result<(), 
     requires planned { sent.now ≡ planned core.old.topology core.old.journal.steps stage [] }
     ensures room { OnOk result (All (HasRoom (length sent.now) core.new.inboxes.items) sent.now) }
     ensures spare { OnOk result (1089 ≤ core.new.journal.spare) }
-    ensures unchanged { core.new.journal.steps ≡ core.old.journal.steps }
-    ensures topology { core.new.topology ≡ core.old.topology }
+    ensures unmoved { Unmoved core.old core.new }
     ensures holds { Holds core.new }
 {
     make_inbox_room(&mut core.inboxes, sent)?;

@@ -2,7 +2,7 @@
 
 ghost use Rattle.std.specs.{Prelude.{◌≡◌, ◌∷◌, ◌≤◌, IfOk, OnOk, OnErr, IsTrue}, List.{list_any}};
 ghost use Rattle.pipe_model.specs.{Ledger.{crashed_reply}, Content.{has_crash}, Legal.{allows}};
-ghost use Rattle.core_state.specs.Stands.{Stands, Holds};
+ghost use Rattle.core_state.specs.{Appends.{Appended, Appends}, Stands.{Stands, Holds}};
 ghost use Rattle.plain_run.specs.{Owes.{Owes}, Works.{WorksStand}};
 
 use crate::after::After;
@@ -27,8 +27,7 @@ pub(crate) fn append_done(
     requires stands { Stands core.old }
     requires works { WorksStand core.old.topology core.old.journal.steps works.old }
     requires legal { IsTrue (allows core.old.topology core.old.journal.steps (Step.Done stage replies)) }
-    ensures appended { core.new.journal.steps ≡ Step.Done stage replies ∷ core.old.journal.steps }
-    ensures topology { core.new.topology ≡ core.old.topology }
+    ensures appends { Appended (Step.Done stage replies) core.old core.new }
     ensures holds { Holds core.new }
     ensures owes { Owes core.new.topology core.new.journal.steps result }
     ensures works { WorksStand core.new.topology core.new.journal.steps works.new }
@@ -44,8 +43,7 @@ pub(crate) fn append_done(
 fn append_replies(core: &mut Core, stage: StageNo, replies: ReplyList) -> After
     requires stands { Stands core.old }
     requires legal { IsTrue (allows core.old.topology core.old.journal.steps (Step.Done stage replies)) }
-    ensures appended { core.new.journal.steps ≡ Step.Done stage replies ∷ core.old.journal.steps }
-    ensures topology { core.new.topology ≡ core.old.topology }
+    ensures appends { Appended (Step.Done stage replies) core.old core.new }
     ensures holds { Holds core.new }
     ensures owes { Owes core.new.topology core.new.journal.steps result }
 {
@@ -68,8 +66,7 @@ fn any_crashed(replies: &[Reply]) -> bool
 pub(crate) fn append_late(core: &mut Core, post: Post, incarnation: u32, answer: LateAnswer)
     requires stands { Stands core.old }
     requires legal { IsTrue (allows core.old.topology core.old.journal.steps (Step.Late post.stage post.slot incarnation answer)) }
-    ensures appended { core.new.journal.steps ≡ Step.Late post.stage post.slot incarnation answer ∷ core.old.journal.steps }
-    ensures topology { core.new.topology ≡ core.old.topology }
+    ensures appends { Appended (Step.Late post.stage post.slot incarnation answer) core.old core.new }
     ensures stands { Stands core.new }
 {
     let _answered = late(core, post, incarnation, answer);
@@ -84,9 +81,7 @@ pub(crate) fn append_restart(
     requires stands { Stands core.old }
     requires works { WorksStand core.old.topology core.old.journal.steps works.old }
     requires legal { IsTrue (allows core.old.topology core.old.journal.steps (Step.Restart stage)) }
-    ensures appended { OnOk result (core.new.journal.steps ≡ Step.Restart stage ∷ core.old.journal.steps) }
-    ensures unchanged { OnErr result (core.new.journal.steps ≡ core.old.journal.steps) }
-    ensures topology { core.new.topology ≡ core.old.topology }
+    ensures appends { Appends result (Step.Restart stage) core.old core.new }
     ensures stands { Stands core.new }
     ensures works { WorksStand core.new.topology core.new.journal.steps works.new }
 {

@@ -1,8 +1,8 @@
 //! A legal step is appended.
 
-ghost use Rattle.std.specs.Prelude.{◌≡◌, ◌∷◌, false, None, IfOk, OnOk, OnErr, IsTrue};
+ghost use Rattle.std.specs.Prelude.{◌≡◌, false, None, IfOk, OnErr, IsTrue};
 ghost use Rattle.pipe_model.specs.Legal.{allows, owed};
-ghost use Rattle.core_state.specs.Stands.{Stands, Holds};
+ghost use Rattle.core_state.specs.{Appends.{Appends}, Stands.{Stands, Holds}};
 ghost use Rattle.plain_run.specs.{Owes.{Owes}, Runs.{IsRun}, Steps.{is_clock as is_clock_as, is_flow as is_flow_as, keeps_works as keeps_works_as}, Works.{WorksStand}};
 ghost use Rattle.plain_run.specs.declared.after.After.TheVariants.{Free};
 
@@ -25,9 +25,7 @@ pub(crate) fn append(core: &mut Core, works: &mut Works, step: Step) -> Result<A
     requires stands { Stands core.old }
     requires works { WorksStand core.old.topology core.old.journal.steps works.old }
     requires legal { IsTrue (allows core.old.topology core.old.journal.steps step) }
-    ensures appended { OnOk result (core.new.journal.steps ≡ step ∷ core.old.journal.steps) }
-    ensures unchanged { OnErr result (core.new.journal.steps ≡ core.old.journal.steps) }
-    ensures topology { core.new.topology ≡ core.old.topology }
+    ensures appends { Appends result (step) core.old core.new }
     ensures run { IfOk result (λ after. IsRun core.new works.new after) }
     ensures same { OnErr result (IsRun core.new works.new Free) }
 {
@@ -58,9 +56,7 @@ fn append_kept(core: &mut Core, step: Step) -> Result<After, AllocError>
     requires stands { Stands core.old }
     requires legal { IsTrue (allows core.old.topology core.old.journal.steps step) }
     requires kind { IsTrue (keeps_works_as step) }
-    ensures appended { OnOk result (core.new.journal.steps ≡ step ∷ core.old.journal.steps) }
-    ensures unchanged { OnErr result (core.new.journal.steps ≡ core.old.journal.steps) }
-    ensures topology { core.new.topology ≡ core.old.topology }
+    ensures appends { Appends result (step) core.old core.new }
     ensures holds { Holds core.new }
     ensures owes { IfOk result (λ after. Owes core.new.topology core.new.journal.steps after) }
     ensures unowed { OnErr result (owed core.new.topology core.new.journal.steps ≡ None) }
@@ -114,9 +110,7 @@ fn append_brought(core: &mut Core, step: Step) -> Result<After, AllocError>
     requires kind { IsTrue (keeps_works_as step) }
     requires clock { is_clock_as step ≡ false }
     requires flow { is_flow_as step ≡ false }
-    ensures appended { OnOk result (core.new.journal.steps ≡ step ∷ core.old.journal.steps) }
-    ensures unchanged { OnErr result (core.new.journal.steps ≡ core.old.journal.steps) }
-    ensures topology { core.new.topology ≡ core.old.topology }
+    ensures appends { Appends result (step) core.old core.new }
     ensures holds { Holds core.new }
     ensures owes { IfOk result (λ after. Owes core.new.topology core.new.journal.steps after) }
     ensures unowed { OnErr result (owed core.new.topology core.new.journal.steps ≡ None) }
@@ -149,9 +143,7 @@ fn append_worked(core: &mut Core, works: &mut Works, step: Step) -> Result<After
     requires works { WorksStand core.old.topology core.old.journal.steps works.old }
     requires legal { IsTrue (allows core.old.topology core.old.journal.steps step) }
     requires kind { keeps_works_as step ≡ false }
-    ensures appended { OnOk result (core.new.journal.steps ≡ step ∷ core.old.journal.steps) }
-    ensures unchanged { OnErr result (core.new.journal.steps ≡ core.old.journal.steps) }
-    ensures topology { core.new.topology ≡ core.old.topology }
+    ensures appends { Appends result (step) core.old core.new }
     ensures holds { Holds core.new }
     ensures owes { IfOk result (λ after. Owes core.new.topology core.new.journal.steps after) }
     ensures unowed { OnErr result (owed core.new.topology core.new.journal.steps ≡ None) }

@@ -1,9 +1,9 @@
 //! The end of a batch.
 
-ghost use Rattle.std.specs.Prelude.{◌≡◌, ◌∷◌, IfOk, OnOk, OnErr, IsTrue};
+ghost use Rattle.std.specs.Prelude.{◌≡◌, IfOk, OnErr, IsTrue};
 ghost use Rattle.pipe_types.specs.Stages.{spec_of};
 ghost use Rattle.pipe_model.specs.Legal.{allows};
-ghost use Rattle.core_state.specs.Stands.{Stands, Holds};
+ghost use Rattle.core_state.specs.{Appends.{Appended, Appends}, Stands.{Stands, Holds}};
 ghost use Rattle.plain_run.specs.{Owes.{Owes, is_crash}, Works.{WorksStand, count_with as count_with_as}};
 
 use crate::after::After;
@@ -29,9 +29,7 @@ pub(crate) fn append_wrote(
     requires stands { Stands core.old }
     requires works { WorksStand core.old.topology core.old.journal.steps works.old }
     requires legal { IsTrue (allows core.old.topology core.old.journal.steps (Step.Wrote stage bytes end)) }
-    ensures appended { OnOk result (core.new.journal.steps ≡ Step.Wrote stage bytes end ∷ core.old.journal.steps) }
-    ensures unchanged { OnErr result (core.new.journal.steps ≡ core.old.journal.steps) }
-    ensures topology { core.new.topology ≡ core.old.topology }
+    ensures appends { Appends result (Step.Wrote stage bytes end) core.old core.new }
     ensures holds { Holds core.new }
     ensures owes { IfOk result (λ after. Owes core.new.topology core.new.journal.steps after) }
     ensures stands { OnErr result (Stands core.new) }
@@ -63,8 +61,7 @@ fn count_with(
 fn append_end(core: &mut Core, stage: StageNo, bytes: u64, end: BatchEnd) -> After
     requires stands { Stands core.old }
     requires legal { IsTrue (allows core.old.topology core.old.journal.steps (Step.Wrote stage bytes end)) }
-    ensures appended { core.new.journal.steps ≡ Step.Wrote stage bytes end ∷ core.old.journal.steps }
-    ensures topology { core.new.topology ≡ core.old.topology }
+    ensures appends { Appended (Step.Wrote stage bytes end) core.old core.new }
     ensures holds { Holds core.new }
     ensures owes { Owes core.new.topology core.new.journal.steps result }
 {

@@ -1,8 +1,8 @@
 //! Children.
 
-ghost use Rattle.std.specs.Prelude.{◌≡◌, ◌∷◌, OnOk, OnErr, IsTrue};
+ghost use Rattle.std.specs.Prelude.{◌≡◌, IsTrue};
 ghost use Rattle.pipe_model.specs.Legal.{allows};
-ghost use Rattle.core_state.specs.Stands.{Stands};
+ghost use Rattle.core_state.specs.{Appends.{Appended, Appends}, Stands.{Stands}};
 ghost use Rattle.plain_run.specs.Works.{WorksStand};
 
 use crate::works::{Works, note_started};
@@ -24,9 +24,7 @@ pub(crate) fn append_child(
     requires stands { Stands core.old }
     requires works { WorksStand core.old.topology core.old.journal.steps works.old }
     requires legal { IsTrue (allows core.old.topology core.old.journal.steps (Step.Child stage no slot)) }
-    ensures appended { OnOk result (core.new.journal.steps ≡ Step.Child stage no slot ∷ core.old.journal.steps) }
-    ensures unchanged { OnErr result (core.new.journal.steps ≡ core.old.journal.steps) }
-    ensures topology { core.new.topology ≡ core.old.topology }
+    ensures appends { Appends result (Step.Child stage no slot) core.old core.new }
     ensures stands { Stands core.new }
     ensures works { WorksStand core.new.topology core.new.journal.steps works.new }
 {
@@ -39,8 +37,7 @@ pub(crate) fn append_child(
 pub(crate) fn append_child_end(core: &mut Core, stage: StageNo, slot: u16, reply: Reply)
     requires stands { Stands core.old }
     requires legal { IsTrue (allows core.old.topology core.old.journal.steps (Step.ChildEnd stage slot reply)) }
-    ensures appended { core.new.journal.steps ≡ Step.ChildEnd stage slot reply ∷ core.old.journal.steps }
-    ensures topology { core.new.topology ≡ core.old.topology }
+    ensures appends { Appended (Step.ChildEnd stage slot reply) core.old core.new }
     ensures stands { Stands core.new }
 {
     let _answered = child_end(core, stage, slot, reply);

@@ -1,8 +1,8 @@
 //! Ticks, sources without records, the drain, and what control lines do.
 
-ghost use Rattle.std.specs.Prelude.{◌≡◌, ◌∷◌, OnOk, OnErr, IsTrue};
+ghost use Rattle.std.specs.Prelude.{◌≡◌, IsTrue};
 ghost use Rattle.pipe_model.specs.Legal.{allows};
-ghost use Rattle.core_state.specs.Stands.{Stands};
+ghost use Rattle.core_state.specs.{Appends.{Appended, Appends}, Stands.{Stands}};
 ghost use Rattle.plain_run.specs.Steps.{is_clock};
 
 use core_calls::asks::{refuse, tick};
@@ -20,9 +20,7 @@ pub(crate) fn append_clock(core: &mut Core, step: Step) -> Result<(), AllocError
     requires stands { Stands core.old }
     requires legal { IsTrue (allows core.old.topology core.old.journal.steps step) }
     requires kind { IsTrue (is_clock step) }
-    ensures appended { OnOk result (core.new.journal.steps ≡ step ∷ core.old.journal.steps) }
-    ensures unchanged { OnErr result (core.new.journal.steps ≡ core.old.journal.steps) }
-    ensures topology { core.new.topology ≡ core.old.topology }
+    ensures appends { Appends result (step) core.old core.new }
     ensures stands { Stands core.new }
 {
     match step {
@@ -47,8 +45,7 @@ pub(crate) fn append_clock(core: &mut Core, step: Step) -> Result<(), AllocError
 fn append_quiet(core: &mut Core, stage: StageNo)
     requires stands { Stands core.old }
     requires legal { IsTrue (allows core.old.topology core.old.journal.steps (Step.Quiet stage)) }
-    ensures appended { core.new.journal.steps ≡ Step.Quiet stage ∷ core.old.journal.steps }
-    ensures topology { core.new.topology ≡ core.old.topology }
+    ensures appends { Appended (Step.Quiet stage) core.old core.new }
     ensures stands { Stands core.new }
 {
     let _answered = quiet(core, stage);

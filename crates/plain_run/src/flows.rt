@@ -1,8 +1,8 @@
 //! Asks, fetches, dispatches and open batches.
 
-ghost use Rattle.std.specs.Prelude.{◌≡◌, ◌∷◌, OnOk, OnErr, IsTrue};
+ghost use Rattle.std.specs.Prelude.{◌≡◌, IsTrue};
 ghost use Rattle.pipe_model.specs.Legal.{allows};
-ghost use Rattle.core_state.specs.Stands.{Stands};
+ghost use Rattle.core_state.specs.{Appends.{Appends}, Stands.{Stands}};
 ghost use Rattle.plain_run.specs.Steps.{is_flow};
 
 use core_accepts::fetches::fetch;
@@ -19,9 +19,7 @@ pub(crate) fn append_flow(core: &mut Core, step: Step) -> Result<(), AllocError>
     requires stands { Stands core.old }
     requires legal { IsTrue (allows core.old.topology core.old.journal.steps step) }
     requires kind { IsTrue (is_flow step) }
-    ensures appended { OnOk result (core.new.journal.steps ≡ step ∷ core.old.journal.steps) }
-    ensures unchanged { OnErr result (core.new.journal.steps ≡ core.old.journal.steps) }
-    ensures topology { core.new.topology ≡ core.old.topology }
+    ensures appends { Appends result (step) core.old core.new }
     ensures stands { Stands core.new }
 {
     match step {

@@ -1,9 +1,9 @@
 //! Takes.
 
-ghost use Rattle.std.specs.Prelude.{◌≡◌, ◌∷◌, ◌<◌, length, take, IfOk, OnOk, OnErr, IsTrue};
+ghost use Rattle.std.specs.Prelude.{◌≡◌, ◌<◌, length, take, IfOk, IsTrue};
 ghost use Rattle.pipe_model.specs.{Flow.{units_on}, Legal.{allows}};
 ghost use Rattle.core_tables.specs.Tables.{queue_at};
-ghost use Rattle.core_state.specs.Stands.{Stands};
+ghost use Rattle.core_state.specs.{Appends.{Appends}, Stands.{Stands}};
 ghost use Rattle.plain_run.specs.Works.{WorksStand};
 
 use crate::works::{Works, note_taken};
@@ -25,9 +25,7 @@ pub(crate) fn append_take(
     requires stands { Stands core.old }
     requires works { WorksStand core.old.topology core.old.journal.steps works.old }
     requires legal { IsTrue (allows core.old.topology core.old.journal.steps (Step.Take stage sub k)) }
-    ensures appended { OnOk result (core.new.journal.steps ≡ Step.Take stage sub k ∷ core.old.journal.steps) }
-    ensures unchanged { OnErr result (core.new.journal.steps ≡ core.old.journal.steps) }
-    ensures topology { core.new.topology ≡ core.old.topology }
+    ensures appends { Appends result (Step.Take stage sub k) core.old core.new }
     ensures stands { Stands core.new }
     ensures works { WorksStand core.new.topology core.new.journal.steps works.new }
 {

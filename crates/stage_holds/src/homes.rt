@@ -1,6 +1,6 @@
 //! What comes home: the body to its place, and the answer into the journal.
 
-ghost use Rattle.std.specs.Prelude.{◌≡◌, ◌≤◌, length, IsTrue, OnOk, OnErr};
+ghost use Rattle.std.specs.Prelude.{◌≡◌, ◌≤◌, length, IsTrue, OnErr};
 ghost use Rattle.pipe_model.specs.Legal.{allows};
 ghost use Rattle.stage_bodies.specs.{Posts.{brings_records}, Seen.{body_at}};
 ghost use Rattle.body_laws.specs.{Lates.{late_of}, Ready.{Ready}};
@@ -41,10 +41,8 @@ pub fn come_home<B: Works>(
 fn record(core: &mut RunCore, answer: Answer) -> Result<(), AllocError>
     requires legal { IsTrue (allows core.old.topology core.old.journal.steps (answer_step core.old.topology core.old.journal.steps answer)) }
     requires stage { 1 ≤ answer.post.stage.0 }
-    ensures appended { OnOk result (core.new.journal.steps ≡ with_answered core.old.topology core.old.journal.steps answer) }
-    ensures unchanged { OnErr result (core.new.journal.steps ≡ core.old.journal.steps) }
+    ensures comes { ComesTo result (with_answered core.old.topology core.old.journal.steps answer) core.old core.new }
     ensures refused { OnErr result (IsTrue (brings_records answer.outcome)) }
-    ensures topology { core.new.topology ≡ core.old.topology }
 {
     if is_in_time(core, &answer) {
         return record_answer(core, answer);

@@ -40,8 +40,12 @@ returns-clause-log c =
     let room = ap (λ (a : AckLog). a.room) c.reserve-5.ensures.same_acked in
     holds_on_ok c.reserve-5.result _ (omega (arith, c.in_ok-reserve_acked.ensures.room, room, c.fetches_out.ensures, many))
 
-pub returns-clause-unchanged : goal.returns-clause-unchanged
-returns-clause-unchanged c = c.reserve-5.ensures.same_steps ∙ c.reserve_acked.ensures.same_steps
+pub returns-clause-unmoved : goal.returns-clause-unmoved
+returns-clause-unmoved c =
+    record {
+      steps = c.reserve-5.ensures.same_steps ∙ c.reserve_acked.ensures.same_steps;
+      topology = refl;
+    }
 
 pub returns-in_err-reserve_acked-clause-stands : goal.returns-in_err-reserve_acked-clause-stands
 returns-in_err-reserve_acked-clause-stands c =

@@ -123,8 +123,12 @@ pub push_spare-requires : goal.push_spare-requires
 push_spare-requires c =
     omega (arith, wrote_due c.args.core.now c.args.stage c.args.bytes c.args.end c.requires.stands.holds c.requires.legal, c.requires.stands.holds.room.steps, c.note_batch.ensures.same_spare)
 
-pub returns-clause-appended : goal.returns-clause-appended
-returns-clause-appended c = c.push_spare.ensures.written ∙ ap (λ (h : History). Wrote c.args.stage c.args.bytes c.args.end ∷ h) c.note_batch.ensures.same_steps
+pub returns-clause-appends : goal.returns-clause-appends
+returns-clause-appends c =
+    record {
+      steps = c.push_spare.ensures.written ∙ ap (λ (h : History). Wrote c.args.stage c.args.bytes c.args.end ∷ h) c.note_batch.ensures.same_steps;
+      topology = refl;
+    }
 
 pub returns-clause-stands : goal.returns-clause-stands
 returns-clause-stands c =

@@ -101,8 +101,12 @@ pub push_spare-requires : goal.push_spare-requires
 push_spare-requires c =
     omega (arith, end_due c.args.core.now c.args.stage c.args.slot c.args.reply c.requires.holds c.requires.legal, c.requires.holds.room.steps, c.note_one.ensures.same_spare)
 
-pub returns-clause-appended : goal.returns-clause-appended
-returns-clause-appended c = c.push_spare.ensures.written ∙ ap (λ (h : History). ChildEnd c.args.stage c.args.slot c.args.reply ∷ h) c.note_one.ensures.same_steps
+pub returns-clause-appends : goal.returns-clause-appends
+returns-clause-appends c =
+    record {
+      steps = c.push_spare.ensures.written ∙ ap (λ (h : History). ChildEnd c.args.stage c.args.slot c.args.reply ∷ h) c.note_one.ensures.same_steps;
+      topology = refl;
+    }
 
 pub returns-clause-holds : goal.returns-clause-holds
 returns-clause-holds c =

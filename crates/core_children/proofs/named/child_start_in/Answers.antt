@@ -48,13 +48,13 @@ start_at-requires-clause-sub c =
     c.first_sub-sub.ensures
     ∙ (ap (λ qs. sub_first (queue_at qs c.args.stage)) c.deref-2.ensures.value
     ∙ (ap sub_first (c.requires.stands.holds.fields.inboxes c.args.stage)
-    ∙ sym (ap (λ (t : Topology). sub_first (inbox t c.make_ready.new.core.journal.steps c.args.stage)) c.make_ready.ensures.topology
-    ∙ ap (λ (h : History). sub_first (inbox c.args.core.now.topology h c.args.stage)) c.make_ready.ensures.unchanged)))
+    ∙ sym (ap (λ (t : Topology). sub_first (inbox t c.make_ready.new.core.journal.steps c.args.stage)) c.make_ready.ensures.unmoved.topology
+    ∙ ap (λ (h : History). sub_first (inbox c.args.core.now.topology h c.args.stage)) c.make_ready.ensures.unmoved.steps)))
 
 pub start_at-requires-clause-within : goal.start_at-requires-clause-within
 start_at-requires-clause-within c =
     let low = named_within c.args.core.now c.args.stage c.args.no c.args.slot c.requires.stands.holds c.requires.legal in
-    subst (λ (t : Topology). c.args.stage.0 ≤ length t.stages) (sym c.make_ready.ensures.topology) (omega (arith, low, c.requires.stands.holds.fields.sized.children))
+    subst (λ (t : Topology). c.args.stage.0 ≤ length t.stages) (sym c.make_ready.ensures.unmoved.topology) (omega (arith, low, c.requires.stands.holds.fields.sized.children))
 
 pub start_at-requires-clause-slot : goal.start_at-requires-clause-slot
 start_at-requires-clause-slot c =

@@ -9,22 +9,30 @@ use Rattle.core_jobs.proofs.answers.reply.Goals as goal
 pub crash_chunk-requires-clause-crash : goal.crash_chunk-requires-clause-crash
 crash_chunk-requires-clause-crash c = crash_read c.args.replies c.as_slice.result.now c.any_crashed.result true c.as_slice.ensures c.any_crashed.ensures c.if-any_crashed.true
 
-pub returns-then-any_crashed-clause-appended : goal.returns-then-any_crashed-clause-appended
-returns-then-any_crashed-clause-appended c =
-    c.crash_chunk.ensures.appended
-    ∙ with_kill (has_crash c.args.replies) c.args.stage (Done c.args.stage c.args.replies ∷ c.args.core.now.journal.steps)
-    (crash_read c.args.replies c.as_slice.result.now c.any_crashed.result true c.as_slice.ensures c.any_crashed.ensures c.if-any_crashed.true)
+pub returns-then-any_crashed-clause-comes : goal.returns-then-any_crashed-clause-comes
+returns-then-any_crashed-clause-comes c =
+    record {
+      steps =
+          c.crash_chunk.ensures.comes.steps
+          ∙ with_kill (has_crash c.args.replies) c.args.stage (Done c.args.stage c.args.replies ∷ c.args.core.now.journal.steps)
+          (crash_read c.args.replies c.as_slice.result.now c.any_crashed.result true c.as_slice.ensures c.any_crashed.ensures c.if-any_crashed.true);
+      topology = c.crash_chunk.ensures.comes.topology;
+    }
 
 pub answer-requires-clause-calm : goal.answer-requires-clause-calm
 answer-requires-clause-calm c = crash_read c.args.replies c.as_slice.result.now c.any_crashed.result false c.as_slice.ensures c.any_crashed.ensures c.if-any_crashed.false
 
-pub returns-clause-appended : goal.returns-clause-appended
-returns-clause-appended c =
+pub returns-clause-comes : goal.returns-clause-comes
+returns-clause-comes c =
     let answered = Done c.args.stage c.args.replies in
-    c.answer.ensures.appended
-    ∙ (without_kill (has_crash c.args.replies) c.args.stage (answered ∷ c.core.inside.state.journal.steps)
-    (crash_read c.args.replies c.as_slice.result.now c.any_crashed.result false c.as_slice.ensures c.any_crashed.ensures c.if-any_crashed.false)
-    ∙ ap (λ (k : Core). and_kill (has_crash c.args.replies) c.args.stage (answered ∷ k.journal.steps)) c.core.view_is)
+    record {
+      steps =
+          c.answer.ensures.appends.steps
+          ∙ (without_kill (has_crash c.args.replies) c.args.stage (answered ∷ c.core.inside.state.journal.steps)
+          (crash_read c.args.replies c.as_slice.result.now c.any_crashed.result false c.as_slice.ensures c.any_crashed.ensures c.if-any_crashed.false)
+          ∙ ap (λ (k : Core). and_kill (has_crash c.args.replies) c.args.stage (answered ∷ k.journal.steps)) c.core.view_is);
+      topology = c.answer.ensures.appends.topology ∙ ap (λ (k : Core). k.topology) c.core.view_is;
+    }
 
 pub returns-clause-ok : goal.returns-clause-ok
 returns-clause-ok c = c.let_go.ensures ∙ c.answer.ensures.ok

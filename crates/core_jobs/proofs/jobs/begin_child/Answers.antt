@@ -14,8 +14,8 @@ start_legal c =
     let x = c.in_ok-child.ensures in
     let child = c.in_ok-child.child in
     let is : c.core.inside.state ≡ c.args.core.now = c.core.view_is in
-    last_allowed c.args.core.now.topology c.child_start.new.core.topology c.args.core.now.journal.steps c.child_start.new.core.journal.steps (Child c.args.stage child.message.no child.slot) (rw is at x.topology)
-    (rw is at x.appended) x.stands.holds.legal
+    last_allowed c.args.core.now.topology c.child_start.new.core.topology c.args.core.now.journal.steps c.child_start.new.core.journal.steps (Child c.args.stage child.message.no child.slot) (rw is at x.appended.topology)
+    (rw is at x.appended.steps) x.stands.holds.legal
 
 pub returns-clause-begun : goal.returns-clause-begun
 returns-clause-begun c =
@@ -23,7 +23,7 @@ returns-clause-begun c =
     let child = c.in_ok-child.child in
     let next = child_next core.topology core.journal.steps c.args.stage child.message.no child.slot (start_legal (goal.at.returns-clause-begun c).In_ok-child) in
     let is : c.core.inside.state ≡ c.args.core.now = c.core.view_is in
-    started child.slot refl (rw is at c.in_ok-child.ensures.appended ∙ ap (λ (m : MsgNo). Child c.args.stage m child.slot ∷ core.journal.steps) next)
+    started child.slot refl (rw is at c.in_ok-child.ensures.appended.steps ∙ ap (λ (m : MsgNo). Child c.args.stage m child.slot ∷ core.journal.steps) next)
 
 pub returns-clause-job : goal.returns-clause-job
 returns-clause-job c =
@@ -33,6 +33,6 @@ returns-clause-job c =
     let x = c.in_ok-child.ensures in
     let is : c.core.inside.state ≡ c.args.core.now = c.core.view_is in
     let stands = subst Stands is c.core.invariant in
-    as_job core.topology after.topology (Child c.args.stage child.message.no child.slot ∷ core.journal.steps) after.journal.steps _ (rw is at x.topology) (rw is at x.appended)
+    as_job core.topology after.topology (Child c.args.stage child.message.no child.slot ∷ core.journal.steps) after.journal.steps _ (rw is at x.appended.topology) (rw is at x.appended.steps)
     (child_job core.topology core.journal.steps c.args.stage child.message child.slot c.incarnation-incarnation.result stands.holds.sound stands.holds.legal
     c.incarnation-incarnation.ensures (start_legal (goal.at.returns-clause-job c).In_ok-child) (rw is at x.message))

@@ -37,17 +37,25 @@ gather-requires-clause-legal c =
     subst (λ (k : Core). allows k.topology k.journal.steps (Gather s (message_no (first_unit (inbox k.topology k.journal.steps s)))) ≡ true) (sym is)
     (subst (λ (m : MsgNo). allows core.topology core.journal.steps (Gather s m) ≡ true) (gather_first core.topology core.journal.steps s c.in-Gather.no legal) legal)
 
-pub returns-in_ok-ask-in-Ask-clause-appended : goal.returns-in_ok-ask-in-Ask-clause-appended
-returns-in_ok-ask-in-Ask-clause-appended c =
+pub returns-in_ok-ask-in-Ask-clause-appends : goal.returns-in_ok-ask-in-Ask-clause-appends
+returns-in_ok-ask-in-Ask-clause-appends c =
     let is : c.core.inside.state ≡ c.args.core.now = c.core.view_is in
-    rw is at c.in_ok-ask-in-Ask.ensures.appended
-    ∙ (ap (λ (k : ℕ). Ask c.in-Ask.sub k ∷ c.args.core.now.journal.steps) (rw is at c.in_ok-ask-in-Ask.ensures.size ∙ sym (ask_found (goal.at.returns-in_ok-ask-in-Ask-clause-appended c).In-Ask))
-    ∙ ap (λ (step : Step). step ∷ c.args.core.now.journal.steps) (sym c.in-Ask.is))
+    record {
+      steps =
+          rw is at c.in_ok-ask-in-Ask.ensures.appends.steps
+          ∙ (ap (λ (k : ℕ). Ask c.in-Ask.sub k ∷ c.args.core.now.journal.steps) (sym (ask_found (goal.at.returns-in_ok-ask-in-Ask-clause-appends c).In-Ask))
+          ∙ ap (λ (step : Step). step ∷ c.args.core.now.journal.steps) (sym c.in-Ask.is));
+      topology = rw is at c.in_ok-ask-in-Ask.ensures.appends.topology;
+    }
 
-pub returns-in_ok-gather-in-Gather-clause-appended : goal.returns-in_ok-gather-in-Gather-clause-appended
-returns-in_ok-gather-in-Gather-clause-appended c =
+pub returns-in_ok-gather-in-Gather-clause-appends : goal.returns-in_ok-gather-in-Gather-clause-appends
+returns-in_ok-gather-in-Gather-clause-appends c =
     let core = c.args.core.now in
     let is : c.core.inside.state ≡ c.args.core.now = c.core.view_is in
-    let first = gather_first core.topology core.journal.steps c.in-Gather.stage c.in-Gather.no (gather_legal (goal.at.returns-in_ok-gather-in-Gather-clause-appended c).In-Gather) in
-    rw is at c.in_ok-gather-in-Gather.ensures.appended
-    ∙ (ap (λ (m : MsgNo). Gather c.in-Gather.stage m ∷ core.journal.steps) (rw is at c.in_ok-gather-in-Gather.ensures.first ∙ sym first) ∙ ap (λ (step : Step). step ∷ core.journal.steps) (sym c.in-Gather.is))
+    let first = gather_first core.topology core.journal.steps c.in-Gather.stage c.in-Gather.no (gather_legal (goal.at.returns-in_ok-gather-in-Gather-clause-appends c).In-Gather) in
+    record {
+      steps =
+          rw is at c.in_ok-gather-in-Gather.ensures.appends.steps
+          ∙ (ap (λ (m : MsgNo). Gather c.in-Gather.stage m ∷ core.journal.steps) (sym first) ∙ ap (λ (step : Step). step ∷ core.journal.steps) (sym c.in-Gather.is));
+      topology = rw is at c.in_ok-gather-in-Gather.ensures.appends.topology;
+    }

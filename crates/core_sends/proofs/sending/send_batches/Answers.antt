@@ -148,8 +148,12 @@ leave_served-requires-clause-settled c = c.requires.stands.holds.fields.sized.se
 pub push_spare-requires : goal.push_spare-requires
 push_spare-requires c = omega (arith, c.requires.spare, c.note_alone.ensures.same_spare)
 
-pub returns-clause-appended : goal.returns-clause-appended
-returns-clause-appended c = c.push_spare.ensures.written ∙ ap (λ (h : History). Dispatch c.args.stage ∷ h) c.note_alone.ensures.same_steps
+pub returns-clause-appends : goal.returns-clause-appends
+returns-clause-appends c =
+    record {
+      steps = c.push_spare.ensures.written ∙ ap (λ (h : History). Dispatch c.args.stage ∷ h) c.note_alone.ensures.same_steps;
+      topology = refl;
+    }
 
 pub returns-in_err-begin_all-clause-stands : goal.returns-in_err-begin_all-clause-stands
 returns-in_err-begin_all-clause-stands c =

@@ -112,8 +112,12 @@ pub come_home-requires : goal.come_home-requires
 come_home-requires c =
     omega (arith, (known_answer c.args.core.now c.args.stage c.args.replies c.requires.holds c.requires.legal c.requires.calm).within, c.requires.holds.fields.sized.posts)
 
-pub returns-clause-appended : goal.returns-clause-appended
-returns-clause-appended c = c.push_spare.ensures.written ∙ ap (λ (h : History). Done c.args.stage c.args.replies ∷ h) c.note_acked.ensures.same_steps
+pub returns-clause-appends : goal.returns-clause-appends
+returns-clause-appends c =
+    record {
+      steps = c.push_spare.ensures.written ∙ ap (λ (h : History). Done c.args.stage c.args.replies ∷ h) c.note_acked.ensures.same_steps;
+      topology = refl;
+    }
 
 pub returns-clause-holds : goal.returns-clause-holds
 returns-clause-holds c =

@@ -56,13 +56,16 @@ pub note_take-requires : goal.note_take-requires
 note_take-requires c =
     omega (arith, (known_take c.args.core.now c.args.stage c.args.sub c.args.most c.requires.holds c.requires.processor c.requires.legal).within, c.requires.holds.fields.sized.stages)
 
-pub returns-clause-appended : goal.returns-clause-appended
-returns-clause-appended c =
+pub returns-clause-appends : goal.returns-clause-appends
+returns-clause-appends c =
     let core = c.args.core.now in
     let known = known_take core c.args.stage c.args.sub c.args.most c.requires.holds c.requires.processor c.requires.legal in
     let chunk = start_read core c.args.stage c.args.sub c.args.most c.start_chunk.new.chunks c.index-chunk.result.now c.requires.holds known c.start_chunk.ensures.chunks c.start_chunk.ensures.chunks_len c.index-chunk.ensures in
     let size : c.len-k.result ≡ size_of core c.args.stage c.args.sub c.args.most = omega (arith, c.len-k.ensures, start_long core c.args.stage c.args.sub c.args.most c.index-chunk.result.now.items chunk) in
-    c.push_spare.ensures.written ∙ ap (λ n. Take c.args.stage c.args.sub n ∷ core.journal.steps) size
+    record {
+      steps = c.push_spare.ensures.written ∙ ap (λ n. Take c.args.stage c.args.sub n ∷ core.journal.steps) size;
+      topology = refl;
+    }
 
 pub returns-clause-holds : goal.returns-clause-holds
 returns-clause-holds c =

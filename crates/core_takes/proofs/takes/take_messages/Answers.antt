@@ -34,18 +34,22 @@ start-requires-clause-legal c =
     let core = c.args.core.now in
     let s = c.args.stage in
     let u = c.first_sub-sub.result in
-    same_allowed core c.make_ready.new.core s u c.most_units-most.result c.make_ready.ensures.topology c.make_ready.ensures.unchanged (picked_read core s u c.most_units-most.result c.deref.result.now c.requires.stands.holds c.requires.legal c.first_sub-sub.ensures c.deref.ensures.value c.most_units-most.ensures).allowed
+    same_allowed core c.make_ready.new.core s u c.most_units-most.result c.make_ready.ensures.unmoved.topology c.make_ready.ensures.unmoved.steps (picked_read core s u c.most_units-most.result c.deref.result.now c.requires.stands.holds c.requires.legal c.first_sub-sub.ensures c.deref.ensures.value c.most_units-most.ensures).allowed
 
-pub returns-clause-appended : goal.returns-clause-appended
-returns-clause-appended c =
+pub returns-clause-comes : goal.returns-clause-comes
+returns-clause-comes c =
     let core = c.args.core.now in
     let s = c.args.stage in
     let u = c.first_sub-sub.result in
     let is = picked_read core s u c.most_units-most.result c.deref.result.now c.requires.stands.holds c.requires.legal c.first_sub-sub.ensures c.deref.ensures.value c.most_units-most.ensures in
-    c.start.ensures.appended
-    ∙ (ap (λ (h : History). take_of c.make_ready.new.core.topology c.make_ready.new.core.journal.steps s u c.most_units-most.result ∷ h) c.make_ready.ensures.unchanged
-    ∙ (ap (λ t. t ∷ core.journal.steps) (same_take core c.make_ready.new.core s u c.most_units-most.result c.make_ready.ensures.topology c.make_ready.ensures.unchanged)
-    ∙ sym (ap (λ o. with_step o core.journal.steps) is.step)))
+    record {
+      steps =
+          c.start.ensures.appends.steps
+          ∙ (ap (λ (h : History). take_of c.make_ready.new.core.topology c.make_ready.new.core.journal.steps s u c.most_units-most.result ∷ h) c.make_ready.ensures.unmoved.steps
+          ∙ (ap (λ t. t ∷ core.journal.steps) (same_take core c.make_ready.new.core s u c.most_units-most.result c.make_ready.ensures.unmoved.topology c.make_ready.ensures.unmoved.steps)
+          ∙ sym (ap (λ o. with_step o core.journal.steps) is.step)));
+      topology = c.start.ensures.appends.topology ∙ c.make_ready.ensures.unmoved.topology;
+    }
 
 pub returns-clause-chunk : goal.returns-clause-chunk
 returns-clause-chunk c =
@@ -57,10 +61,10 @@ returns-clause-chunk c =
     let is : c.deref-3.result.now ≡ take (size_of core s u most) (units_on u (inbox core.topology core.journal.steps s)) =
     c.deref-3.ensures.value ∙ (c.in_ok-numbers.ensures ∙ (ap (λ qs. take most (units_on u (queue_at qs s))) c.deref-2.ensures.value ∙ (ap (λ us. take most (units_on u us)) (x.fields.inboxes s) ∙ sym (take_min most (units_on u (inbox core.topology core.journal.steps s)))))) in
     let written : c.start.new.core.journal.steps ≡ take_of core.topology core.journal.steps s u most ∷ core.journal.steps =
-    c.start.ensures.appended
-    ∙ (ap (λ (h : History). take_of c.make_ready.new.core.topology c.make_ready.new.core.journal.steps s u most ∷ h) c.make_ready.ensures.unchanged
-    ∙ ap (λ t. t ∷ core.journal.steps) (same_take core c.make_ready.new.core s u most c.make_ready.ensures.topology c.make_ready.ensures.unchanged)) in
+    c.start.ensures.appends.steps
+    ∙ (ap (λ (h : History). take_of c.make_ready.new.core.topology c.make_ready.new.core.journal.steps s u most ∷ h) c.make_ready.ensures.unmoved.steps
+    ∙ ap (λ t. t ∷ core.journal.steps) (same_take core c.make_ready.new.core s u most c.make_ready.ensures.unmoved.topology c.make_ready.ensures.unmoved.steps)) in
     c.from_vec.ensures
     ∙ (c.in_ok-messages.ensures ∙ (ap (messages_of core.journal.steps) is
     ∙ (sym (chunk_after core.topology core.journal.steps s u (size_of core s u most))
-    ∙ (sym (ap (λ (h : History). chunk_of core.topology h s) written) ∙ sym (ap (λ (t : Topology). chunk_of t c.start.new.core.journal.steps s) (c.start.ensures.topology ∙ c.make_ready.ensures.topology))))))
+    ∙ (sym (ap (λ (h : History). chunk_of core.topology h s) written) ∙ sym (ap (λ (t : Topology). chunk_of t c.start.new.core.journal.steps s) (c.start.ensures.appends.topology ∙ c.make_ready.ensures.unmoved.topology))))))

@@ -29,5 +29,5 @@ pub returns-clause-owes : goal.returns-clause-owes
 returns-clause-owes c =
     let core = c.args.core.now in
     let x = c.requires.stands.holds in
-    accept_owes core.topology c.enroll.new.core.topology core.journal.steps c.enroll.new.core.journal.steps c.args.stage c.args.records (c.enroll.ensures.topology ∙ c.make_room.ensures.topology)
-    (c.enroll.ensures.appended ∙ ap (λ (h : History). Accept c.args.stage c.args.records ∷ h) c.make_room.ensures.unchanged) x.sound x.legal c.requires.legal
+    accept_owes core.topology c.enroll.new.core.topology core.journal.steps c.enroll.new.core.journal.steps c.args.stage c.args.records (c.enroll.ensures.appends.topology ∙ c.make_room.ensures.unmoved.topology)
+    (c.enroll.ensures.appends.steps ∙ ap (λ (h : History). Accept c.args.stage c.args.records ∷ h) c.make_room.ensures.unmoved.steps) x.sound x.legal c.requires.legal

@@ -9,7 +9,7 @@ use Rattle.plain_run.proofs.Owing.{still_allowed}
 use Rattle.plain_run.proofs.accepts.append_owed.Goals as goal
 
 pub send_messages-requires-clause-messages : goal.send_messages-requires-clause-messages
-send_messages-requires-clause-messages c = ap (λ (t : Topology). is_batcher (spec_of t c.args.stage)) c.make_owed_room.ensures.topology ∙ c.requires.owes.messages
+send_messages-requires-clause-messages c = ap (λ (t : Topology). is_batcher (spec_of t c.args.stage)) c.make_owed_room.ensures.unmoved.topology ∙ c.requires.owes.messages
 
 pub send_messages-requires-clause-legal : goal.send_messages-requires-clause-legal
 send_messages-requires-clause-legal c =

@@ -23,5 +23,5 @@ returns-clause-works c =
     let told : c.counted-count.result ≡ counted (slice_index c.args.works.now.counts.items c.args.stage.0) (length c.args.replies) =
     c.counted-count.ensures ∙ (ap (λ n. counted n (length c.as_slice-messages.result.now)) (c.count_in.ensures ∙ ap (λ (ns : List ℕ). slice_index ns c.args.stage.0) c.deref.ensures.value)
     ∙ ap (counted (slice_index c.args.works.now.counts.items c.args.stage.0)) (ap (λ (rs : List Reply). length rs) c.as_slice-messages.ensures)) in
-    works_same core.topology new.topology (Done c.args.stage c.args.replies ∷ core.journal.steps) new.journal.steps (record c.args.works.now { counts = c.note_count.new.counts }) c.append_replies-after.ensures.topology c.append_replies-after.ensures.appended
+    works_same core.topology new.topology (Done c.args.stage c.args.replies ∷ core.journal.steps) new.journal.steps (record c.args.works.now { counts = c.note_count.new.counts }) c.append_replies-after.ensures.appends.topology c.append_replies-after.ensures.appends.steps
     (works_done core.topology core.journal.steps c.args.stage c.args.replies c.args.works.now c.note_count.new.counts c.counted-count.result c.requires.works c.note_count.ensures.counts c.note_count.ensures.len told)

@@ -16,11 +16,11 @@ pub returns-in_err-restart-clause-works : goal.returns-in_err-restart-clause-wor
 returns-in_err-restart-clause-works c =
     let core = c.args.core.now in
     let new = c.restart.new.core in
-    works_same core.topology new.topology core.journal.steps new.journal.steps c.args.works.now c.in_err-restart.ensures.topology c.in_err-restart.ensures.unchanged c.requires.works
+    works_same core.topology new.topology core.journal.steps new.journal.steps c.args.works.now c.in_err-restart.ensures.appends.topology c.in_err-restart.ensures.appends.steps c.requires.works
 
 pub returns-clause-works : goal.returns-clause-works
 returns-clause-works c =
     let core = c.args.core.now in
     let new = c.restart.new.core in
-    works_same core.topology new.topology (Restart c.args.stage ∷ core.journal.steps) new.journal.steps (record c.args.works.now { counts = c.note_count.new.counts }) c.in_ok-restart.ensures.topology c.in_ok-restart.ensures.appended
+    works_same core.topology new.topology (Restart c.args.stage ∷ core.journal.steps) new.journal.steps (record c.args.works.now { counts = c.note_count.new.counts }) c.in_ok-restart.ensures.appends.topology c.in_ok-restart.ensures.appends.steps
     (works_restarted core.topology core.journal.steps c.args.stage c.args.works.now c.note_count.new.counts c.requires.works c.note_count.ensures.counts c.note_count.ensures.len)

@@ -11,11 +11,14 @@ write_crash-requires-clause-legal c =
     let is = crash_as core.topology core.journal.steps c.args.stage c.args.bytes c.args.end (sym c.has_crashed.ensures ∙ c.if-has_crashed.true) c.requires.legal in
     subst (λ (step : Step). allows core.topology core.journal.steps step ≡ true) (sym is) c.requires.legal
 
-pub returns-then-has_crashed-clause-appended : goal.returns-then-has_crashed-clause-appended
-returns-then-has_crashed-clause-appended c =
+pub returns-then-has_crashed-clause-appends : goal.returns-then-has_crashed-clause-appends
+returns-then-has_crashed-clause-appends c =
     let core = c.args.core.now in
     let is = crash_as core.topology core.journal.steps c.args.stage c.args.bytes c.args.end (sym c.has_crashed.ensures ∙ c.if-has_crashed.true) c.requires.legal in
-    c.write_crash.ensures.appended ∙ ap (λ (step : Step). step ∷ core.journal.steps) is
+    record {
+      steps = c.write_crash.ensures.appends.steps ∙ ap (λ (step : Step). step ∷ core.journal.steps) is;
+      topology = c.write_crash.ensures.appends.topology;
+    }
 
 pub wrote-answered-requires-clause-answered : goal.wrote-answered-requires-clause-answered
 wrote-answered-requires-clause-answered c = calm_end c.args.end (sym c.has_crashed.ensures ∙ c.if-has_crashed.false)

@@ -24,5 +24,5 @@ returns-clause-works c =
     let told : c.in_ok-count.count ≡ count_with (spec_of core.topology c.args.stage) (slice_index c.args.works.now.counts.items c.args.stage.0) (batch_of core.topology core.journal.steps c.args.stage) =
     c.in_ok-count.ensures ∙ (ap (λ n. count_with (spec_of core.topology c.args.stage) n c.deref-2.result.now) (c.count_in.ensures ∙ ap (λ (ns : List ℕ). slice_index ns c.args.stage.0) c.deref.ensures.value)
     ∙ ap (count_with (spec_of core.topology c.args.stage) (slice_index c.args.works.now.counts.items c.args.stage.0)) (c.deref-2.ensures.value ∙ c.in_ok-messages.ensures)) in
-    works_same core.topology new.topology (Wrote c.args.stage c.args.bytes c.args.end ∷ core.journal.steps) new.journal.steps (record c.args.works.now { counts = c.note_count.new.counts }) c.append_end-after.ensures.topology c.append_end-after.ensures.appended
+    works_same core.topology new.topology (Wrote c.args.stage c.args.bytes c.args.end ∷ core.journal.steps) new.journal.steps (record c.args.works.now { counts = c.note_count.new.counts }) c.append_end-after.ensures.appends.topology c.append_end-after.ensures.appends.steps
     (works_wrote core.topology core.journal.steps c.args.stage c.args.bytes c.args.end c.args.works.now c.note_count.new.counts c.in_ok-count.count c.requires.works c.note_count.ensures.counts c.note_count.ensures.len told)

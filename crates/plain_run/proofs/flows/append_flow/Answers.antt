@@ -27,29 +27,41 @@ gather-requires-clause-legal c =
     let h = subst (λ (step : Step). allows core.topology core.journal.steps step ≡ true) a.is c.requires.legal in
     subst (λ (m : MsgNo). allows core.topology core.journal.steps (Gather a.stage m) ≡ true) (gather_first core.topology core.journal.steps a.stage a.no h) h
 
-pub returns-in_ok-ask-in-Ask-clause-appended : goal.returns-in_ok-ask-in-Ask-clause-appended
-returns-in_ok-ask-in-Ask-clause-appended c =
+pub returns-in_ok-ask-in-Ask-clause-appends : goal.returns-in_ok-ask-in-Ask-clause-appends
+returns-in_ok-ask-in-Ask-clause-appends c =
     let core = c.args.core.now in
     let a = c.in-Ask in
     let h = subst (λ (step : Step). allows core.topology core.journal.steps step ≡ true) a.is c.requires.legal in
-    c.in_ok-ask-in-Ask.ensures.appended
-    ∙ (ap (λ (k : ℕ). Ask a.sub k ∷ core.journal.steps) (c.in_ok-ask-in-Ask.ensures.size ∙ sym (ask_due core.topology core.journal.steps a.sub a.n h))
-    ∙ ap (λ (step : Step). step ∷ core.journal.steps) (sym a.is))
+    record {
+      steps =
+          c.in_ok-ask-in-Ask.ensures.appends.steps
+          ∙ (ap (λ (k : ℕ). Ask a.sub k ∷ core.journal.steps) (sym (ask_due core.topology core.journal.steps a.sub a.n h))
+          ∙ ap (λ (step : Step). step ∷ core.journal.steps) (sym a.is));
+      topology = c.in_ok-ask-in-Ask.ensures.appends.topology;
+    }
 
-pub returns-in_ok-fetch-in-Fetch-clause-appended : goal.returns-in_ok-fetch-in-Fetch-clause-appended
-returns-in_ok-fetch-in-Fetch-clause-appended c =
+pub returns-in_ok-fetch-in-Fetch-clause-appends : goal.returns-in_ok-fetch-in-Fetch-clause-appends
+returns-in_ok-fetch-in-Fetch-clause-appends c =
     let core = c.args.core.now in
     let a = c.in-Fetch in
     let h = subst (λ (step : Step). allows core.topology core.journal.steps step ≡ true) a.is c.requires.legal in
-    c.in_ok-fetch-in-Fetch.ensures.appended
-    ∙ (ap (λ (k : ℕ). Fetch a.stage k ∷ core.journal.steps) (c.in_ok-fetch-in-Fetch.ensures.size ∙ sym (fetch_bound core.topology core.journal.steps a.stage a.n h))
-    ∙ ap (λ (step : Step). step ∷ core.journal.steps) (sym a.is))
+    record {
+      steps =
+          c.in_ok-fetch-in-Fetch.ensures.appends.steps
+          ∙ (ap (λ (k : ℕ). Fetch a.stage k ∷ core.journal.steps) (sym (fetch_bound core.topology core.journal.steps a.stage a.n h))
+          ∙ ap (λ (step : Step). step ∷ core.journal.steps) (sym a.is));
+      topology = c.in_ok-fetch-in-Fetch.ensures.appends.topology;
+    }
 
-pub returns-in_ok-gather-in-Gather-clause-appended : goal.returns-in_ok-gather-in-Gather-clause-appended
-returns-in_ok-gather-in-Gather-clause-appended c =
+pub returns-in_ok-gather-in-Gather-clause-appends : goal.returns-in_ok-gather-in-Gather-clause-appends
+returns-in_ok-gather-in-Gather-clause-appends c =
     let core = c.args.core.now in
     let a = c.in-Gather in
     let h = subst (λ (step : Step). allows core.topology core.journal.steps step ≡ true) a.is c.requires.legal in
-    c.in_ok-gather-in-Gather.ensures.appended
-    ∙ (ap (λ (m : MsgNo). Gather a.stage m ∷ core.journal.steps) (c.in_ok-gather-in-Gather.ensures.first ∙ sym (gather_first core.topology core.journal.steps a.stage a.no h))
-    ∙ ap (λ (step : Step). step ∷ core.journal.steps) (sym a.is))
+    record {
+      steps =
+          c.in_ok-gather-in-Gather.ensures.appends.steps
+          ∙ (ap (λ (m : MsgNo). Gather a.stage m ∷ core.journal.steps) (sym (gather_first core.topology core.journal.steps a.stage a.no h))
+          ∙ ap (λ (step : Step). step ∷ core.journal.steps) (sym a.is));
+      topology = c.in_ok-gather-in-Gather.ensures.appends.topology;
+    }

@@ -23,7 +23,7 @@ returns-in_err-append_owed-clause-same c =
 pub returns-clause-appended : goal.returns-clause-appended
 returns-clause-appended c h =
     let passed : c.is_dispatch_of.result ≡ true = search rules in
-    c.in_ok-append_owed.ensures.appended ∙ ap (λ (st : Step). st ∷ c.args.core.now.journal.steps) (sym (dispatch_is c.args.stage c.args.step.now (sym c.is_dispatch_of.ensures ∙ passed)))
+    c.in_ok-append_owed.ensures.appends.steps ∙ ap (λ (st : Step). st ∷ c.args.core.now.journal.steps) (sym (dispatch_is c.args.stage c.args.step.now (sym c.is_dispatch_of.ensures ∙ passed)))
 
 pub returns-clause-run : goal.returns-clause-run
 returns-clause-run c =

@@ -15,4 +15,4 @@ kill_owed-requires-clause-legal c =
 pub returns-clause-appended : goal.returns-clause-appended
 returns-clause-appended c h =
     let passed : c.is_crash_of.result ≡ true = search rules in
-    c.kill_owed.ensures.appended ∙ ap (λ (st : Step). st ∷ c.args.core.now.journal.steps) (sym (crash_is c.args.stage c.args.step.now (sym c.is_crash_of.ensures ∙ passed)))
+    c.kill_owed.ensures.appends.steps ∙ ap (λ (st : Step). st ∷ c.args.core.now.journal.steps) (sym (crash_is c.args.stage c.args.step.now (sym c.is_crash_of.ensures ∙ passed)))

@@ -22,15 +22,18 @@ note_taken-requires c =
     let x = c.requires.stands.holds in
     omega (arith, take_within core c.args.stage c.args.sub c.args.k x c.requires.legal, c.requires.works.sized.taken)
 
-pub returns-clause-appended : goal.returns-clause-appended
-returns-clause-appended c =
+pub returns-clause-appends : goal.returns-clause-appends
+returns-clause-appends c =
     let core = c.args.core.now in
-    c.in_ok-_chunk.ensures.appended ∙ ap (λ o. with_step o core.journal.steps) (take_next core.topology core.journal.steps c.args.stage c.args.sub c.args.k c.requires.legal)
+    record {
+      steps = c.in_ok-_chunk.ensures.comes.steps ∙ ap (λ o. with_step o core.journal.steps) (take_next core.topology core.journal.steps c.args.stage c.args.sub c.args.k c.requires.legal);
+      topology = c.in_ok-_chunk.ensures.comes.topology;
+    }
 
 pub returns-in_err-_chunk-clause-works : goal.returns-in_err-_chunk-clause-works
 returns-in_err-_chunk-clause-works c =
     let core = c.args.core.now in
-    works_same core.topology c.take.new.core.topology core.journal.steps c.take.new.core.journal.steps c.args.works.now c.in_err-_chunk.ensures.topology c.in_err-_chunk.ensures.unchanged c.requires.works
+    works_same core.topology c.take.new.core.topology core.journal.steps c.take.new.core.journal.steps c.args.works.now c.in_err-_chunk.ensures.comes.topology c.in_err-_chunk.ensures.comes.steps c.requires.works
 
 pub returns-clause-works : goal.returns-clause-works
 returns-clause-works c =
@@ -38,8 +41,8 @@ returns-clause-works c =
     let s = c.args.stage in
     let x = c.requires.stands.holds in
     let steps : c.take.new.core.journal.steps ≡ Take s c.args.sub c.args.k ∷ core.journal.steps =
-    c.in_ok-_chunk.ensures.appended ∙ ap (λ o. with_step o core.journal.steps) (take_next core.topology core.journal.steps s c.args.sub c.args.k c.requires.legal) in
+    c.in_ok-_chunk.ensures.comes.steps ∙ ap (λ o. with_step o core.journal.steps) (take_next core.topology core.journal.steps s c.args.sub c.args.k c.requires.legal) in
     let units : c.in_ok-units.units.items ≡ take c.args.k (units_on c.args.sub (inbox core.topology core.journal.steps s)) =
     c.in_ok-units.ensures ∙ (ap (λ qs. take c.args.k (units_on c.args.sub (queue_at qs s))) c.deref.ensures.value ∙ ap (λ us. take c.args.k (units_on c.args.sub us)) (x.fields.inboxes s)) in
-    works_same core.topology c.take.new.core.topology (Take s c.args.sub c.args.k ∷ core.journal.steps) c.take.new.core.journal.steps (record c.args.works.now { taken = c.note_taken.new.taken }) c.in_ok-_chunk.ensures.topology steps
+    works_same core.topology c.take.new.core.topology (Take s c.args.sub c.args.k ∷ core.journal.steps) c.take.new.core.journal.steps (record c.args.works.now { taken = c.note_taken.new.taken }) c.in_ok-_chunk.ensures.comes.topology steps
     (works_taken core.topology core.journal.steps s c.args.sub c.args.k c.args.works.now c.note_taken.new.taken c.in_ok-units.units.items c.requires.works c.note_taken.ensures.taken c.note_taken.ensures.len units (take_low core s c.args.sub c.args.k x c.requires.legal))

@@ -28,7 +28,7 @@ own_step-requires-clause-legal g c =
 
 pub returns-in_err-own_step-clause-advances : goal.returns-in_err-own_step-clause-advances
 returns-in_err-own_step-clause-advances g c =
-    unmoved c.args.core.now.topology c.args.core.now.journal.steps c.own_step.new.core.journal.steps (body_at g.B.Works.look c.args.bodies.now.items) c.requires.ready c.in_err-own_step.ensures.unchanged
+    unmoved c.args.core.now.topology c.args.core.now.journal.steps c.own_step.new.core.journal.steps (body_at g.B.Works.look c.args.bodies.now.items) c.requires.ready c.in_err-own_step.ensures.appends.steps
 
 pub returns-clause-advances : goal.returns-clause-advances
 returns-clause-advances g c =
