@@ -1,10 +1,13 @@
-use Rattle.std.proofs.Common.{◌≡◌, sym, ◌∙◌, inl, refl, subst}
+use Rattle.std.proofs.Common.{◌≡◌, ◌∷◌, sym, ◌∙◌, inl, refl, subst}
 use Rattle.core_state.specs.Stands.{Stands}
 use Rattle.core_state.proofs.Appending.{came_ok, came_err}
 use Rattle.stage_bodies.specs.Seen.{line_seen}
 use Rattle.control_lines.proofs.Kept.{ended_keeps, is_reading}
 use Rattle.control_lines.proofs.Naming.{may_read, limit_allowed}
 use Rattle.control_lines.proofs.Noting.{limit_on, limit_adds, reading_on, reading_adds_on, unread_on, full_at, not_full}
+use Rattle.pipe_types.specs.declared.step.SourceHow.TheVariants as how
+use Rattle.pipe_types.specs.declared.step.Step.TheVariants.{SourceEnd}
+use Rattle.pipe_types.specs.Numbers.{stage}
 use Rattle.control_lines.proofs.reading.read_next.Goals as goal
 
 pub returns-then-is_ended-clause-adds : goal.returns-then-is_ended-clause-adds
@@ -27,7 +30,9 @@ source_end-requires-clause-legal g c =
 pub returns-then-is_full-clause-adds : goal.returns-then-is_full-clause-adds
 returns-then-is_full-clause-adds g c =
     let is : c.core.inside.state ≡ c.args.core.now = c.core.view_is in
-    limit_adds c.source_end.result c.args.core.now.journal.steps c.source_end.new.core.journal.steps (rw is at came_ok _ _ _ _ c.source_end.ensures.appends) (rw is at came_err _ _ _ _ c.source_end.ensures.appends)
+    limit_adds c.source_end.result c.args.core.now.journal.steps c.source_end.new.core.journal.steps
+    (rw is at came_ok c.source_end.result (SourceEnd (stage 0) how.Limit ∷ c.core.inside.state.journal.steps) c.core.inside.state c.source_end.new.core c.source_end.ensures.appends)
+    (rw is at came_err c.source_end.result (SourceEnd (stage 0) how.Limit ∷ c.core.inside.state.journal.steps) c.core.inside.state c.source_end.new.core c.source_end.ensures.appends)
 
 pub returns-then-is_full-clause-keeps : goal.returns-then-is_full-clause-keeps
 returns-then-is_full-clause-keeps g c opened k =
@@ -36,7 +41,8 @@ returns-then-is_full-clause-keeps g c opened k =
     let is : c.core.inside.state ≡ core = c.core.view_is in
     let stands = subst Stands is c.core.invariant in
     limit_on c.source_end.result core.topology core.journal.steps c.source_end.new.core.journal.steps opened (line_seen s c.args.lines.now)
-    (rw is at came_ok _ _ _ _ c.source_end.ensures.appends) (rw is at came_err _ _ _ _ c.source_end.ensures.appends)
+    (rw is at came_ok c.source_end.result (SourceEnd (stage 0) how.Limit ∷ c.core.inside.state.journal.steps) c.core.inside.state c.source_end.new.core c.source_end.ensures.appends)
+    (rw is at came_err c.source_end.result (SourceEnd (stage 0) how.Limit ∷ c.core.inside.state.journal.steps) c.core.inside.state c.source_end.new.core c.source_end.ensures.appends)
     (full_at core.topology core.journal.steps stands.holds.legal (sym c.is_full.ensures ∙ c.if-is_full.true)) k
 
 pub returns-in_err-outcome-clause-adds : goal.returns-in_err-outcome-clause-adds

@@ -86,6 +86,16 @@ returns-clause-first c =
     let known = read_first c.args.core.now c.args.stage c.first_unit-unit.result c.deref.result.now c.requires.stands c.requires.legal c.deref.ensures.value c.first_unit-unit.ensures in
     ap message_no known.first
 
+pub returns-clause-appends : goal.returns-clause-appends
+returns-clause-appends c =
+    let core = c.args.core.now in
+    let s = c.args.stage in
+    let known = read_first core s c.first_unit-unit.result c.deref.result.now c.requires.stands c.requires.legal c.deref.ensures.value c.first_unit-unit.ensures in
+    record {
+      steps = c.push_spare.ensures.written ∙ (ap (λ (h : History). Gather s (message_no c.first_unit-unit.result.1) ∷ h) c.in_ok-reserve.ensures.same_steps ∙ ap (λ n. Gather s (message_no n) ∷ core.journal.steps) known.first);
+      topology = refl;
+    }
+
 pub returns-clause-stands : goal.returns-clause-stands
 returns-clause-stands c =
     let core = c.args.core.now in

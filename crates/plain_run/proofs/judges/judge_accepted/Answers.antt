@@ -16,8 +16,8 @@ returns-in_err-append_owed-clause-same c =
     on_err c.from_residual-in_err-append_owed.result (IsRun new c.args.works.now (Accept c.args.stage))
     (record {
       holds = e.holds;
-      owes = owes_same old.topology new.topology old.journal.steps new.journal.steps c.args.stage e.topology e.unchanged c.requires.owes;
-      works = works_same old.topology new.topology old.journal.steps new.journal.steps c.args.works.now e.topology e.unchanged c.requires.works;
+      owes = owes_same old.topology new.topology old.journal.steps new.journal.steps c.args.stage e.appends.topology e.appends.steps c.requires.owes;
+      works = works_same old.topology new.topology old.journal.steps new.journal.steps c.args.works.now e.appends.topology e.appends.steps c.requires.works;
     })
 
 pub returns-clause-appended : goal.returns-clause-appended
@@ -28,4 +28,4 @@ returns-clause-appended c h =
 pub returns-clause-run : goal.returns-clause-run
 returns-clause-run c =
     let e = c.in_ok-append_owed.ensures in
-    run_kept c.args.core.now c.append_owed.new.core c.args.works.now Free (Dispatch c.args.stage) e.stands.holds e.stands.unowed c.requires.works e.topology e.appended refl
+    run_kept c.args.core.now c.append_owed.new.core c.args.works.now Free (Dispatch c.args.stage) e.stands.holds e.stands.unowed c.requires.works e.appends.topology e.appends.steps refl

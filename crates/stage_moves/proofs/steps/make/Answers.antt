@@ -8,6 +8,7 @@ use Rattle.stage_moves.proofs.Own.{named_own}
 use Rattle.stage_moves.proofs.Goings.{made, made_less}
 use Rattle.stage_moves.proofs.Legality.{legal_then}
 use Rattle.stage_moves.proofs.Results.{on_ok}
+use Rattle.core_state.proofs.Appending.{came_ok, came_err, same_topology}
 use Rattle.stage_moves.proofs.steps.make.Goals as goal
 
 pub own_step-requires-clause-legal : goal.own_step-requires-clause-legal
@@ -26,14 +27,17 @@ returns-in_default g c =
     let h = c.args.core.now.journal.steps in
     let after = c.own_step.new.core.journal.steps in
     let other = c.own_step.new.core.topology in
+    let same = same_topology c.own_step.result (c.args.step ∷ h) c.args.core.now c.own_step.new.core e.appends in
+    let there = came_ok c.own_step.result (c.args.step ∷ h) c.args.core.now c.own_step.new.core e.appends in
+    let still = came_err c.own_step.result (c.args.step ∷ h) c.args.core.now c.own_step.new.core e.appends in
     let stands = c.stands.ensures in
     let may = subst (IsLegalMove t h) c.requires.first (move_law t h stands.holds.legal stands.unowed) in
-    let legal = legal_then t other h after c.args.step c.own_step.result stands.holds.legal may e.topology e.appended e.unchanged in
+    let legal = legal_then t other h after c.args.step c.own_step.result stands.holds.legal may same there still in
     record {
-      topology = e.topology;
+      topology = same;
       len = refl;
-      advances = made t other h after c.args.step (body_at g.B.Works.look c.args.bodies.now.items) c.own_step.result stands.holds.sound c.requires.ready e.topology legal c.requires.first
-          c.in_default.not-Restart e.appended e.unchanged;
-      less = on_ok (after ≡ c.args.step ∷ h) (work_left t after < work_left t h) c.own_step.result e.appended
-          (λ is. made_less t other h after c.args.step stands.holds.sound e.topology legal c.requires.first is);
+      advances = made t other h after c.args.step (body_at g.B.Works.look c.args.bodies.now.items) c.own_step.result stands.holds.sound c.requires.ready same legal c.requires.first
+          c.in_default.not-Restart there still;
+      less = on_ok (after ≡ c.args.step ∷ h) (work_left t after < work_left t h) c.own_step.result there
+          (λ is. made_less t other h after c.args.step stands.holds.sound same legal c.requires.first is);
     }

@@ -18,7 +18,7 @@ legal g c =
     let h = c.args.core.now.journal.steps in
     let stands = c.stands.ensures in
     let e = c.in_ok-own_step.ensures in
-    legal_then {T = Unit {0}} {E = Unit {0}} t c.own_step.new.core.topology h c.own_step.new.core.journal.steps (Restart c.args.stage) (Ok (tt {0})) stands.holds.legal (subst (IsLegalMove t h) c.requires.first (move_law t h stands.holds.legal stands.unowed)) e.topology e.appended (tt {0})
+    legal_then {T = Unit {0}} {E = Unit {0}} t c.own_step.new.core.topology h c.own_step.new.core.journal.steps (Restart c.args.stage) (Ok (tt {0})) stands.holds.legal (subst (IsLegalMove t h) c.requires.first (move_law t h stands.holds.legal stands.unowed)) e.appends.topology e.appends.steps (tt {0})
 
 pub own_step-requires-clause-legal : goal.own_step-requires-clause-legal
 own_step-requires-clause-legal g c =
@@ -35,9 +35,9 @@ returns-clause-advances g c =
     let look = g.B.Works.look in
     let e = c.in_ok-own_step.ensures in
     restarted c.args.core.now.topology c.own_step.new.core.topology c.args.core.now.journal.steps c.own_step.new.core.journal.steps c.args.stage (body_at look c.args.bodies.now.items) (body_at look c.reset_bodies.new.bodies.items)
-    c.stands.ensures.holds.sound c.requires.ready e.topology (legal g (goal.at.returns-clause-advances g c).In_ok-own_step) c.requires.first e.appended c.reset_bodies.ensures.reset
+    c.stands.ensures.holds.sound c.requires.ready e.appends.topology (legal g (goal.at.returns-clause-advances g c).In_ok-own_step) c.requires.first e.appends.steps c.reset_bodies.ensures.reset
 
 pub returns-clause-less : goal.returns-clause-less
 returns-clause-less g c =
     let e = c.in_ok-own_step.ensures in
-    made_less c.args.core.now.topology c.own_step.new.core.topology c.args.core.now.journal.steps c.own_step.new.core.journal.steps (Restart c.args.stage) c.stands.ensures.holds.sound e.topology (legal g (goal.at.returns-clause-less g c).In_ok-own_step) c.requires.first e.appended
+    made_less c.args.core.now.topology c.own_step.new.core.topology c.args.core.now.journal.steps c.own_step.new.core.journal.steps (Restart c.args.stage) c.stands.ensures.holds.sound e.appends.topology (legal g (goal.at.returns-clause-less g c).In_ok-own_step) c.requires.first e.appends.steps
