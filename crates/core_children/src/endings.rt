@@ -1,6 +1,6 @@
 //! The end of a child's run.
 
-ghost use Rattle.std.specs.Prelude.{◌≡◌, IsOk, IsTrue};
+ghost use Rattle.std.specs.Prelude.{IsOk, IsTrue};
 ghost use Rattle.pipe_model.specs.Legal.{allows};
 ghost use Rattle.core_state.specs.{Appends.{Appended}, Stands.{Stands, Holds}};
 

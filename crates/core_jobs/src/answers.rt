@@ -3,6 +3,7 @@
 ghost use Rattle.std.specs.Prelude.{◌≡◌, ◌∷◌, ◌≤◌, is_ok, OnErr, IsOk, IsTrue};
 ghost use Rattle.pipe_types.specs.declared.step.Step.TheVariants.{Accept, Done, Wrote, ChildEnd};
 ghost use Rattle.pipe_model.specs.{Content.{has_crash}, Legal.{allows}};
+ghost use Rattle.core_state.specs.Appends.{Appended, CameTo, ComesTo};
 ghost use Rattle.core_accepts.specs.Records.{and_dispatch};
 ghost use Rattle.stage_bodies.specs.Posts.{step_of, is_crashed_end, brings_records};
 ghost use Rattle.core_jobs.specs.Recorded.{and_kill, with_answer};

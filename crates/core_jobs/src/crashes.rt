@@ -3,6 +3,7 @@
 ghost use Rattle.std.specs.{Prelude.{◌≡◌, ◌∷◌, IsTrue}, List.{list_any}};
 ghost use Rattle.pipe_types.specs.{declared.message.BatchEnd.TheVariants.{Crashed}, declared.message.Why.TheVariants.{Crash}, declared.step.Step.TheVariants.{Done, Wrote, Kill}};
 ghost use Rattle.pipe_model.specs.{Content.{has_crash}, Ledger.{crashed_reply}, Legal.{allows}};
+ghost use Rattle.core_state.specs.Appends.{CameTo};
 ghost use Rattle.stage_bodies.specs.Posts.{is_crashed_end};
 
 use core_kills::kills::kill_owed;

@@ -1,7 +1,8 @@
 //! The steps that a pipeline takes of its own accord.
 
-ghost use Rattle.std.specs.Prelude.{◌≡◌, IsTrue};
+ghost use Rattle.std.specs.Prelude.{IsTrue};
 ghost use Rattle.pipe_model.specs.Legal.{allows};
+ghost use Rattle.core_state.specs.Appends.{Appends};
 ghost use Rattle.core_jobs.specs.Steps.{is_own_step};
 
 use core_batches::gathers::gather;

@@ -1,6 +1,6 @@
 //! Replies to a chunk, late answers, and restarts.
 
-ghost use Rattle.std.specs.{Prelude.{◌≡◌, ◌∷◌, ◌≤◌, IfOk, OnOk, OnErr, IsTrue}, List.{list_any}};
+ghost use Rattle.std.specs.{Prelude.{◌≡◌, ◌≤◌, IsTrue}, List.{list_any}};
 ghost use Rattle.pipe_model.specs.{Ledger.{crashed_reply}, Content.{has_crash}, Legal.{allows}};
 ghost use Rattle.core_state.specs.{Appends.{Appended, Appends}, Stands.{Stands, Holds}};
 ghost use Rattle.plain_run.specs.{Owes.{Owes}, Works.{WorksStand}};

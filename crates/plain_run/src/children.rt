@@ -1,6 +1,6 @@
 //! Children.
 
-ghost use Rattle.std.specs.Prelude.{◌≡◌, IsTrue};
+ghost use Rattle.std.specs.Prelude.{IsTrue};
 ghost use Rattle.pipe_model.specs.Legal.{allows};
 ghost use Rattle.core_state.specs.{Appends.{Appended, Appends}, Stands.{Stands}};
 ghost use Rattle.plain_run.specs.Works.{WorksStand};

@@ -1,6 +1,6 @@
 //! Ticks, sources without records, the drain, and what control lines do.
 
-ghost use Rattle.std.specs.Prelude.{◌≡◌, IsTrue};
+ghost use Rattle.std.specs.Prelude.{IsTrue};
 ghost use Rattle.pipe_model.specs.Legal.{allows};
 ghost use Rattle.core_state.specs.{Appends.{Appended, Appends}, Stands.{Stands}};
 ghost use Rattle.plain_run.specs.Steps.{is_clock};

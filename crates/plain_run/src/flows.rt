@@ -1,6 +1,6 @@
 //! Asks, fetches, dispatches and open batches.
 
-ghost use Rattle.std.specs.Prelude.{◌≡◌, IsTrue};
+ghost use Rattle.std.specs.Prelude.{IsTrue};
 ghost use Rattle.pipe_model.specs.Legal.{allows};
 ghost use Rattle.core_state.specs.{Appends.{Appends}, Stands.{Stands}};
 ghost use Rattle.plain_run.specs.Steps.{is_flow};

@@ -2,6 +2,7 @@
 
 ghost use Rattle.std.specs.Prelude.{◌≡◌, ◌≤◌, length, IsTrue, OnErr};
 ghost use Rattle.pipe_model.specs.Legal.{allows};
+ghost use Rattle.core_state.specs.Appends.{ComesTo};
 ghost use Rattle.stage_bodies.specs.{Posts.{brings_records}, Seen.{body_at}};
 ghost use Rattle.body_laws.specs.{Lates.{late_of}, Ready.{Ready}};
 ghost use Rattle.stage_holds.specs.{Answers.{is_in_time, answer_step, with_answered}, Holds.{Comes, IsHome}};
