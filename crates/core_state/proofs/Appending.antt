@@ -1,5 +1,5 @@
 -- Steps that were appended, seen from the calls above.
-use Rattle.std.proofs.Common.{◌≡◌, ◌∷◌, ap, ◌∙◌, tt}
+use Rattle.std.proofs.Common.{◌≡◌, ◌∷◌, ap, ◌∙◌}
 use Rattle.std.specs.Prelude.{Result, Ok, Err, OnOk, OnErr}
 use Rattle.pipe_types.specs.declared.step.Step.{Step}
 use Rattle.pipe_model.specs.History.{History}
