@@ -1,6 +1,7 @@
 //! Control lines, and what they ask for.
 
-ghost use Rattle.std.specs.{Prelude.{◌≡◌, ◌∷◌, ◌+◌, ◌++◌, ◌&&◌, ℕ, not, codes, false, IsOk, OnOk, OnErr, IsTrue, option_map}, Str.{bytes_eq}};
+ghost use Rattle.std.specs.{Prelude.{◌≡◌, ◌∷◌, ◌+◌, ◌++◌, ◌&&◌, ℕ, not, codes, false, IsOk, IsTrue, option_map}, Str.{bytes_eq}};
+ghost use Rattle.core_state.specs.Appends.{Appends};
 ghost use Rattle.pipe_model.specs.{History.{controls}, Lives.{is_live}, Legal.{happened, is_halt, is_drain, may_control}, Outside.{control_reading, named_live}};
 ghost use Rattle.control_lines.specs.{Orders.{step_for}, Steps.{is_kill}};
 
@@ -32,12 +33,9 @@ pub(crate) enum Order {
 pub fn obey_line(core: &mut RunCore, line: &[u8]) -> Result<(), AllocError>
     requires may { IsTrue (may_control core.old.journal.steps) }
     requires going { happened is_halt core.old.journal.steps ≡ false }
-    ensures appended { OnOk result (core.new.journal.steps
-        ≡ control_reading core.old.topology core.old.journal.steps (controls core.old.journal.steps + 1) line.now ∷ core.old.journal.steps) }
-    ensures unchanged { OnErr result (core.new.journal.steps ≡ core.old.journal.steps) }
+    ensures appends { Appends result (control_reading core.old.topology core.old.journal.steps (controls core.old.journal.steps + 1) line.now) core.old core.new }
     // A kill takes no memory.
     ensures kills { IsTrue (is_kill (control_reading core.old.topology core.old.journal.steps (controls core.old.journal.steps + 1) line.now)) → IsOk result }
-    ensures topology { core.new.topology ≡ core.old.topology }
 {
     match order_of(core, line) {
         Order::Kill(stage, why) => kill(&mut core.state, stage, why),

@@ -1,8 +1,9 @@
 //! The part of a round that reads its control source.
 
-ghost use Rattle.std.specs.Prelude.{◌≡◌, [], false, nat_le, IsTrue, OnOk, OnErr, Option, option_map};
+ghost use Rattle.std.specs.Prelude.{◌≡◌, [], false, nat_le, IsTrue, OnErr, Option, option_map};
 ghost use Rattle.pipe_types.specs.Numbers.{stage};
 ghost use Rattle.pipe_model.specs.{History.{controls}, Legal.{happened, is_halt, has_ended, may_control}};
+ghost use Rattle.core_state.specs.Appends.{ComesTo};
 ghost use Rattle.stage_bodies.specs.{Seen.{LineSeen, line_seen}, declared.job.Outcome.TheVariants.{Records}};
 ghost use Rattle.control_lines.specs.{Orders.{with_reading, IsReading}, Steps.{AddsControl}, Keeping.{KeepsLines, KeepsLinesOn, KeepsControl, KeepsControlOn}, Rest.{LeavesAtRest}};
 
@@ -87,9 +88,7 @@ fn note_reading(core: &mut RunCore, outcome: Outcome) -> Result<(), AllocError>
     requires may { IsTrue (may_control core.old.journal.steps) }
     requires going { happened is_halt core.old.journal.steps ≡ false }
     requires reading { IsReading outcome }
-    ensures noted { OnOk result (core.new.journal.steps ≡ with_reading core.old.topology core.old.journal.steps outcome) }
-    ensures unchanged { OnErr result (core.new.journal.steps ≡ core.old.journal.steps) }
-    ensures topology { core.new.topology ≡ core.old.topology }
+    ensures comes { ComesTo result (with_reading core.old.topology core.old.journal.steps outcome) core.old core.new }
 {
     match outcome {
         Outcome::Records(lines) => obey_first(core, &lines),
@@ -102,9 +101,7 @@ fn note_reading(core: &mut RunCore, outcome: Outcome) -> Result<(), AllocError>
 fn obey_first(core: &mut RunCore, lines: &BytesList) -> Result<(), AllocError>
     requires may { IsTrue (may_control core.old.journal.steps) }
     requires going { happened is_halt core.old.journal.steps ≡ false }
-    ensures noted { OnOk result (core.new.journal.steps ≡ with_reading core.old.topology core.old.journal.steps (Records lines.now)) }
-    ensures unchanged { OnErr result (core.new.journal.steps ≡ core.old.journal.steps) }
-    ensures topology { core.new.topology ≡ core.old.topology }
+    ensures comes { ComesTo result (with_reading core.old.topology core.old.journal.steps (Records lines.now)) core.old core.new }
 {
     match lines.as_slice().first() {
         Some(line) => obey_line(core, line.as_slice()),

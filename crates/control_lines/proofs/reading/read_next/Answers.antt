@@ -1,6 +1,6 @@
 use Rattle.std.proofs.Common.{◌≡◌, ◌∷◌, sym, ◌∙◌, inl, refl, subst}
 use Rattle.core_state.specs.Stands.{Stands}
-use Rattle.core_state.proofs.Appending.{came_ok, came_err}
+use Rattle.core_state.proofs.Appending.{came_ok, came_err, same_topology}
 use Rattle.stage_bodies.specs.Seen.{line_seen}
 use Rattle.control_lines.proofs.Kept.{ended_keeps, is_reading}
 use Rattle.control_lines.proofs.Naming.{may_read, limit_allowed}
@@ -8,6 +8,7 @@ use Rattle.control_lines.proofs.Noting.{limit_on, limit_adds, reading_on, readin
 use Rattle.pipe_types.specs.declared.step.SourceHow.TheVariants as how
 use Rattle.pipe_types.specs.declared.step.Step.TheVariants.{SourceEnd}
 use Rattle.pipe_types.specs.Numbers.{stage}
+use Rattle.control_lines.specs.Orders.{with_reading}
 use Rattle.control_lines.proofs.reading.read_next.Goals as goal
 
 pub returns-then-is_ended-clause-adds : goal.returns-then-is_ended-clause-adds
@@ -69,7 +70,9 @@ note_reading-requires-clause-reading g c =
 pub returns-clause-adds : goal.returns-clause-adds
 returns-clause-adds g c =
     let core = c.args.core.now in
-    reading_adds_on c.note_reading.result core.topology core.journal.steps c.note_reading.new.core.journal.steps c.in_ok-outcome.outcome c.note_reading.ensures.noted c.note_reading.ensures.unchanged
+    reading_adds_on c.note_reading.result core.topology core.journal.steps c.note_reading.new.core.journal.steps c.in_ok-outcome.outcome
+    (came_ok c.note_reading.result (with_reading core.topology core.journal.steps c.in_ok-outcome.outcome) core c.note_reading.new.core c.note_reading.ensures.comes)
+    (came_err c.note_reading.result (with_reading core.topology core.journal.steps c.in_ok-outcome.outcome) core c.note_reading.new.core c.note_reading.ensures.comes)
 
 pub returns-clause-keeps : goal.returns-clause-keeps
 returns-clause-keeps g c opened k =
@@ -77,4 +80,25 @@ returns-clause-keeps g c opened k =
     let s = g.S.ByteSource in
     reading_on c.note_reading.result core.topology core.journal.steps c.note_reading.new.core.journal.steps c.in_ok-outcome.outcome opened
     (line_seen s c.args.lines.now) (line_seen s c.fetch.new.source)
-    c.note_reading.ensures.noted c.note_reading.ensures.unchanged (sym c.is_ended.ensures ∙ c.if-is_ended.false) c.in_ok-outcome.ensures.done k
+    (came_ok c.note_reading.result (with_reading core.topology core.journal.steps c.in_ok-outcome.outcome) core c.note_reading.new.core c.note_reading.ensures.comes)
+    (came_err c.note_reading.result (with_reading core.topology core.journal.steps c.in_ok-outcome.outcome) core c.note_reading.new.core c.note_reading.ensures.comes) (sym c.is_ended.ensures ∙ c.if-is_ended.false) c.in_ok-outcome.ensures.done k
+
+pub returns-then-is_full-clause-topology : goal.returns-then-is_full-clause-topology
+returns-then-is_full-clause-topology g c =
+    let is : c.core.inside.state ≡ c.args.core.now = c.core.view_is in
+    rw is at same_topology c.source_end.result (SourceEnd (stage 0) how.Limit ∷ c.core.inside.state.journal.steps) c.core.inside.state c.source_end.new.core c.source_end.ensures.appends
+
+pub returns-then-is_full-clause-unchanged : goal.returns-then-is_full-clause-unchanged
+returns-then-is_full-clause-unchanged g c =
+    let is : c.core.inside.state ≡ c.args.core.now = c.core.view_is in
+    rw is at came_err c.source_end.result (SourceEnd (stage 0) how.Limit ∷ c.core.inside.state.journal.steps) c.core.inside.state c.source_end.new.core c.source_end.ensures.appends
+
+pub returns-clause-topology : goal.returns-clause-topology
+returns-clause-topology g c =
+    let core = c.args.core.now in
+    same_topology c.note_reading.result (with_reading core.topology core.journal.steps c.in_ok-outcome.outcome) core c.note_reading.new.core c.note_reading.ensures.comes
+
+pub returns-clause-unchanged : goal.returns-clause-unchanged
+returns-clause-unchanged g c =
+    let core = c.args.core.now in
+    came_err c.note_reading.result (with_reading core.topology core.journal.steps c.in_ok-outcome.outcome) core c.note_reading.new.core c.note_reading.ensures.comes

@@ -24,3 +24,8 @@ returns-clause-waits g c =
     tick_waits c.args.core.now.topology c.tick.new.core.topology c.args.core.now.journal.steps c.tick.new.core.journal.steps c.max-now.result c.tick.result stands.holds.sound (rw is at same_topology c.tick.result (Tick c.max-now.result ∷ c.core.inside.state.journal.steps) c.core.inside.state c.tick.new.core e.appends) e.stands.holds.legal
     (rw is at came_ok c.tick.result (Tick c.max-now.result ∷ c.core.inside.state.journal.steps) c.core.inside.state c.tick.new.core e.appends)
     (rw is at came_err c.tick.result (Tick c.max-now.result ∷ c.core.inside.state.journal.steps) c.core.inside.state c.tick.new.core e.appends)
+
+pub returns-clause-topology : goal.returns-clause-topology
+returns-clause-topology g c =
+    let is : c.core.inside.state ≡ c.args.core.now = c.core.view_is in
+    rw is at same_topology c.tick.result (Tick c.max-now.result ∷ c.core.inside.state.journal.steps) c.core.inside.state c.tick.new.core c.tick.ensures.appends
