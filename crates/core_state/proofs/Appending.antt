@@ -4,7 +4,7 @@ use Rattle.std.specs.Prelude.{Result, Ok, Err, OnOk, OnErr}
 use Rattle.pipe_types.specs.declared.step.Step.{Step}
 use Rattle.pipe_model.specs.History.{History}
 use Rattle.core_state.specs.declared.state.Core.{Core}
-use Rattle.core_state.specs.Appends.{CameTo, Unmoved, ComesTo, Appended}
+use Rattle.core_state.specs.Appends.{Appended, ComesTo, Unmoved}
 
 -- room was made before, and nothing else came
 pub came_behind : (old mid new : Core) (step : Step) → Unmoved old mid → Appended step mid new → Appended step old new
