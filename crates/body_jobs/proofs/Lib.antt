@@ -5,3 +5,4 @@ pub mod Settling
 pub mod Sources
 pub mod Merges
 pub mod Lawful
+pub mod InPlace

@@ -1,6 +1,6 @@
 //! Batches.
 
-ghost use Rattle.std.specs.Prelude.{◌≡◌, ◌∷◌, [], IfOk, length, map};
+ghost use Rattle.std.specs.Prelude.{◌≡◌, ◌∷◌, [], IfOk, OnOk, length, map};
 ghost use Rattle.stage_bodies.specs.{Told.{raised_with}, Lawful.{AreSettled, IsLawfullyHandled, IsSettled}, Jobs.{KeepsBox}};
 ghost use Rattle.stage_callback.specs.Laws.{KeepsBatch, KeepsFailed};
 ghost use Rattle.stage_job.specs.{Lawful.{IsReasonLeft}, Told.{reason_by}};
@@ -31,14 +31,14 @@ pub(crate) fn handle_batch(
     let messages = batch.messages.as_slice();
     match ask(callback, batch)? {
         BatchReply::Answered(outcomes, text) => {
-            match settle_all(alloc, callback, messages, outcomes.as_slice()) {
+            match settle_all(callback, messages, outcomes.into_vec()) {
                 Ok(settled) => Ok((BatchEnd::Outcomes(settled), text)),
                 Err(e) => Err(e),
             }
         }
         BatchReply::Raised(why) => {
             let outcomes = fail_all(alloc, messages, why)?;
-            match settle_all(alloc, callback, messages, outcomes.as_slice()) {
+            match settle_all(callback, messages, outcomes) {
                 Ok(settled) => Ok((
                     BatchEnd::Outcomes(settled),
                     Bytes::from_vec(Vec::new(alloc)),
@@ -78,56 +78,77 @@ fn fail_all(alloc: Global, messages: &[Message], why: Reason) -> Result<Vec<Outc
     Ok(outcomes)
 }
 
-/// The outcomes with the reasons that `failed` leaves the messages that failed.
+/// The outcomes with the reasons that `failed` leaves the messages that failed, in the list in which they came.
 fn settle_all(
-    alloc: Global,
     callback: &mut Box<dyn Callback + Send>,
     messages: &[Message],
-    outcomes: &[Outcome],
+    outcomes: Vec<Outcome>,
 ) -> Result<OutcomeList, AllocError>
-    requires { length messages.now ≡ length outcomes.now }
+    requires { length messages.now ≡ length outcomes.items }
     ensures kept { let old = box_of (kind callback.old) (spec callback.old) (count callback.old) (calls callback.old) (bad callback.old) (resets callback.old) (law callback.old) (told callback.old) (said callback.old) in
         let new = box_of (kind callback.new) (spec callback.new) (count callback.new) (calls callback.new) (bad callback.new) (resets callback.new) (law callback.new) (told callback.new) (said callback.new) in
         KeepsBox old new }
     ensures done { let old = box_of (kind callback.old) (spec callback.old) (count callback.old) (calls callback.old) (bad callback.old) (resets callback.old) (law callback.old) (told callback.old) (said callback.old) in
         let new = box_of (kind callback.new) (spec callback.new) (count callback.new) (calls callback.new) (bad callback.new) (resets callback.new) (law callback.new) (told callback.new) (said callback.new) in
-        IfOk result (λ settled. Settles outcomes.now settled old new) }
+        IfOk result (λ settled. Settles outcomes.items settled old new) }
     ensures same_resets { resets callback.new ≡ resets callback.old }
-    ensures lawful { IfOk result (AreSettled (law callback.old) messages.now outcomes.now) }
+    ensures lawful { IfOk result (AreSettled (law callback.old) messages.now outcomes.items) }
 {
-    let mut settled = Vec::with_capacity(alloc, outcomes.len())?;
-    for at in 0..outcomes.len() {
-        let outcome = settle(callback, messages[at].no, outcomes[at])?;
-        settled.push(outcome)?;
+    let mut outcomes = outcomes;
+    match settle_each(callback, messages, &mut outcomes) {
+        Ok(()) => Ok(OutcomeList::from_vec(outcomes)),
+        Err(e) => Err(e),
     }
-    Ok(OutcomeList::from_vec(settled))
 }
 
-/// The outcome of one message, after `failed` where it failed.
+/// The same in place. After want of memory some are settled.
+fn settle_each(
+    callback: &mut Box<dyn Callback + Send>,
+    messages: &[Message],
+    outcomes: &mut [Outcome],
+) -> Result<(), AllocError>
+    requires { length messages.now ≡ length outcomes.old }
+    ensures kept { let old = box_of (kind callback.old) (spec callback.old) (count callback.old) (calls callback.old) (bad callback.old) (resets callback.old) (law callback.old) (told callback.old) (said callback.old) in
+        let new = box_of (kind callback.new) (spec callback.new) (count callback.new) (calls callback.new) (bad callback.new) (resets callback.new) (law callback.new) (told callback.new) (said callback.new) in
+        KeepsBox old new }
+    ensures done { let old = box_of (kind callback.old) (spec callback.old) (count callback.old) (calls callback.old) (bad callback.old) (resets callback.old) (law callback.old) (told callback.old) (said callback.old) in
+        let new = box_of (kind callback.new) (spec callback.new) (count callback.new) (calls callback.new) (bad callback.new) (resets callback.new) (law callback.new) (told callback.new) (said callback.new) in
+        OnOk result (Settles outcomes.old outcomes.new old new) }
+    ensures same_resets { resets callback.new ≡ resets callback.old }
+    ensures lawful { OnOk result (AreSettled (law callback.old) messages.now outcomes.old outcomes.new) }
+{
+    for at in 0..outcomes.len() {
+        settle(callback, messages[at].no, &mut outcomes[at])?;
+    }
+    Ok(())
+}
+
+/// One outcome, after `failed` where its message failed.
 fn settle(
     callback: &mut Box<dyn Callback + Send>,
     no: MsgNo,
-    outcome: Outcome,
-) -> Result<Outcome, AllocError>
+    outcome: &mut Outcome,
+) -> Result<(), AllocError>
     ensures kept { let old = box_of (kind callback.old) (spec callback.old) (count callback.old) (calls callback.old) (bad callback.old) (resets callback.old) (law callback.old) (told callback.old) (said callback.old) in
         let new = box_of (kind callback.new) (spec callback.new) (count callback.new) (calls callback.new) (bad callback.new) (resets callback.new) (law callback.new) (told callback.new) (said callback.new) in
         KeepsBox old new }
     ensures done { let old = box_of (kind callback.old) (spec callback.old) (count callback.old) (calls callback.old) (bad callback.old) (resets callback.old) (law callback.old) (told callback.old) (said callback.old) in
         let new = box_of (kind callback.new) (spec callback.new) (count callback.new) (calls callback.new) (bad callback.new) (resets callback.new) (law callback.new) (told callback.new) (said callback.new) in
-        IfOk result (λ settled. Settles (outcome ∷ []) (settled ∷ []) old new) }
+        OnOk result (Settles (outcome.old ∷ []) (outcome.new ∷ []) old new) }
     ensures same_resets { resets callback.new ≡ resets callback.old }
-    ensures lawful { IfOk result (IsSettled (law callback.old) no outcome) }
+    ensures lawful { OnOk result (IsSettled (law callback.old) no outcome.old outcome.new) }
 {
-    match outcome {
-        Outcome::Successful => Ok(Outcome::Successful),
-        Outcome::Failed(why) => match reason_left(callback, no, why) {
-            Ok(reason) => Ok(Outcome::Failed(reason)),
-            Err(e) => Err(e),
-        },
+    match *outcome {
+        Outcome::Successful => Ok(()),
+        Outcome::Failed(why) => {
+            *outcome = Outcome::Failed(reason_left(callback, no, why)?);
+            Ok(())
+        }
     }
 }
 
 /// The reason that `failed` leaves a message that failed.
+#[inline(never)]
 fn reason_left(
     callback: &mut Box<dyn Callback + Send>,
     no: MsgNo,

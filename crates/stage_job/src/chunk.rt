@@ -246,6 +246,7 @@ fn ask(callback: &mut Box<dyn Callback + Send>, message: Message) -> Result<Repl
 }
 
 /// The reason that a failed message keeps, or what the callback puts in its place. The error is want of memory.
+#[inline(never)]
 pub fn reason_for(
     callback: &mut Box<dyn Callback + Send>,
     no: MsgNo,
