@@ -111,10 +111,12 @@ fn apply_rule(
 fn prefix(alloc: Global, text: &[u8], message: &mut Message) -> Result<Option<Stop>, AllocError>
     ensures { IfOk result (λ stop. reply_by stop message.new ≡ rule_reply 0 (Rule.Prefix text.now) message.old) }
 {
-    if text.len() + message.payload.len() > MAX_PAYLOAD_BYTES {
+    let payload = message.payload.as_slice();
+    if text.len() + payload.len() > MAX_PAYLOAD_BYTES {
         return Ok(Some(Stop::Failed(reason(b"long"))));
     }
-    message.payload = joined(alloc, text, message.payload.as_slice())?;
+    let longer = joined(alloc, text, payload)?;
+    message.payload = longer;
     Ok(None)
 }
 
