@@ -334,7 +334,11 @@ fn add_numbered(arrivals: &mut Vec<Arrival>, units: &[Arrived<u32>]) -> Result<(
 fn values_of(alloc: Global, arrivals: &[Arrival]) -> Result<Vec<u32>, AllocError>
     ensures { IfOk result (λ values. values.items ≡ map (λ a. a.value) arrivals.now) }
 {
-    arrivals.iter().map(|arrival| arrival.value).collect(alloc)
+    let mut values = Vec::with_capacity(alloc, arrivals.len())?;
+    for arrival in arrivals {
+        values.push_reserved(arrival.value);
+    }
+    Ok(values)
 }
 
 /// The unit of an arrival.
