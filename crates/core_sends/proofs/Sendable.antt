@@ -1,12 +1,12 @@
 -- What the passes of a dispatch need of what is sent.
-use Rattle.std.proofs.Common.{◌≡◌, ℕ, suc, ◌-◌, ◌<◌, ◌≤◌, List, [], length, map, All, true, false, ap, sym, ◌∙◌, Some, None, arith, subst, get_or}
+use Rattle.std.proofs.Common.{◌≡◌, ℕ, suc, ◌-◌, ◌<◌, ◌≤◌, List, [], ◌∷◌, length, map, take, All, true, false, refl, ap, sym, ◌∙◌, Some, None, arith, subst, get_or}
 use Rattle.std.specs.Prelude.{is_some, if◌then◌else◌, slice_get, option_map}
 use Rattle.std.specs.declared.alloc.Global.{Global}
 use Rattle.std.specs.declared.collections.VecDeque.{VecDeque}
 use Rattle.stage_buffer.specs.Waiting.{Waiting, KeepsShape}
 use Rattle.core_waits.specs.Waits.{shape_of, shape_for}
 use Rattle.pipe_types.specs.declared.topology.StageSpec.{StageSpec}
-use Rattle.std.proofs.lemmas.List.{length-map, get_or-map}
+use Rattle.std.proofs.lemmas.List.{length-map, length-take, get_or-map, get_or-take}
 use Rattle.pipe_types.specs.declared.numbers.StageNo.{StageNo}
 use Rattle.pipe_types.specs.declared.numbers.SubNo.{SubNo}
 use Rattle.pipe_types.specs.declared.topology.Topology.{Topology}
@@ -14,6 +14,7 @@ use Rattle.pipe_types.specs.declared.room.Sent.{Sent}
 use Rattle.pipe_types.specs.declared.step.Step.TheVariants.{Dispatch}
 use Rattle.pipe_types.specs.Sound.{IsSound}
 use Rattle.pipe_types.specs.Stages.{spec_of, feeds}
+use Rattle.pipe_laws.proofs.Lists.{Each}
 use Rattle.pipe_laws.proofs.Tests.{and_left}
 use Rattle.pipe_model.specs.History.{History, accepted, asked}
 use Rattle.pipe_model.specs.Lives.{is_live}
@@ -33,7 +34,7 @@ use Rattle.core_state.specs.Stands.{Fields, Holds}
 use Rattle.core_sends.specs.Rooms.{planned}
 use Rattle.core_sends.proofs.AfterSending.{counts_are}
 use Rattle.core_sends.proofs.Queued.{live_within, waiting_read, long_queue, numbers_in_queue}
-use Rattle.core_sends.proofs.Sent.{deliveries_named, pair}
+use Rattle.core_sends.proofs.Sent.{all_each, deliveries_named, pair, planned_below}
 use Rattle.core_sends.proofs.Taken.{units_are, unsent_left}
 use Rattle.core_sends.specs.Leaving.{part_for}
 use Rattle.sent_laws.specs.Taken.{taken_each, left_each}
@@ -67,11 +68,33 @@ pub numbers_read : (core : Core) (s : StageNo) (queue : Waiting ℕ) (numbers : 
 numbers_read core s queue numbers x allowed read are =
     are ∙ (ap numbers_in (queue_read core s queue x allowed read) ∙ numbers_in_queue (part_of core.topology core.journal.steps (spec_of core.topology s)) (waiting core.topology core.journal.steps s))
 
+-- the numbers of the first
+pub firsts_read : (core : Core) (s : StageNo) (queue : Waiting ℕ) (most : ℕ) (numbers : List ℕ) → Holds core → allows core.topology core.journal.steps (Dispatch s) ≡ true
+    → queue ≡ get_or core.waiting.items s.0 queue → numbers ≡ take most (map (λ (u : ℕ × ℕ). u.1) queue.units) → numbers ≡ take most (waiting core.topology core.journal.steps s)
+firsts_read core s queue most numbers x allowed read are =
+    are ∙ ap (take most) (numbers_read core s queue (map (λ (u : ℕ × ℕ). u.1) queue.units) x allowed read refl)
+
+-- where as many are read as the plan reaches, each of its units is among them
+pub plan_within : (topology : Topology) (before : History) (s : StageNo) (most : ℕ) (numbers : List ℕ) (plan : List Sent) → numbers ≡ take most (waiting topology before s) → plan ≡ planned topology before s []
+    → All (λ d. d.unit < most) plan → All (λ d. d.unit < length numbers) plan
+plan_within topology before s most numbers plan are planned_so reached k e below =
+    let ws = waiting topology before s in
+    let all : All (λ (d : Sent). d.unit < length ws) plan = subst (All (λ (d : Sent). d.unit < length ws)) (sym planned_so) (planned_below topology before s) in
+    omega (arith, ap length are, length-take most ws, all k e below, reached k e below)
+
+-- a unit among the first has the same name there
+named_first : (most : ℕ) (ws : List ℕ) (ds : List Sent) → Each (λ (d : Sent). d.unit < most) ds → map (named (take most ws)) ds ≡ map (named ws) ds
+named_first most ws [] h = refl
+named_first most ws (d ∷ ds) h = λ i. record { unit = get_or-take most ws d.unit 0 h.0 i; sub = d.sub } ∷ named_first most ws ds h.1 i
+
 -- what the plan names among them is what is sent
-pub units_named : (topology : Topology) (before : History) (s : StageNo) (numbers : List ℕ) (plan units : List Sent) → numbers ≡ waiting topology before s → plan ≡ planned topology before s []
-    → units ≡ map (named numbers) plan → units ≡ deliveries topology before s
-units_named topology before s numbers plan units are planned_so named_so =
-    named_so ∙ (ap (map (named numbers)) planned_so ∙ (ap (λ ws. map (named ws) (planned topology before s [])) are ∙ sym (deliveries_named topology before s)))
+pub units_named : (topology : Topology) (before : History) (s : StageNo) (most : ℕ) (numbers : List ℕ) (plan units : List Sent) → numbers ≡ take most (waiting topology before s) → plan ≡ planned topology before s []
+    → All (λ d. d.unit < most) plan → units ≡ map (named numbers) plan → units ≡ deliveries topology before s
+units_named topology before s most numbers plan units are planned_so reached named_so =
+    named_so
+    ∙ (ap (λ ws. map (named ws) plan) are
+    ∙ (named_first most (waiting topology before s) plan (all_each (λ (d : Sent). d.unit < most) plan reached)
+    ∙ (ap (map (named (waiting topology before s))) planned_so ∙ sym (deliveries_named topology before s))))
 
 -- and so are the units that are taken as they were planned
 pub units_taken : (core : Core) (s : StageNo) (queue : Waiting ℕ) (kind : Kind) (plan units : List Sent) → Holds core → allows core.topology core.journal.steps (Dispatch s) ≡ true

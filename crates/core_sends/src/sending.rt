@@ -1,6 +1,6 @@
 //! The step that sends.
 
-ghost use Rattle.std.specs.Prelude.{◌≡◌, ◌∷◌, [], ◌+◌, ◌≤◌, ◌<◌, length, All, map, IsTrue, true, false, OnOk, OnErr};
+ghost use Rattle.std.specs.Prelude.{◌≡◌, ℕ, ◌∷◌, [], ◌+◌, ◌≤◌, ◌<◌, length, All, map, IsTrue, true, false, OnOk, OnErr};
 ghost use Rattle.pipe_types.specs.Stages.{spec_of};
 ghost use Rattle.pipe_model.specs.{Flow.{is_batcher, kind_in}, Legal.{allows}};
 ghost use Rattle.core_tables.specs.Tables.{named, HasRoom};
@@ -21,6 +21,18 @@ use pipe_types::room::Sent;
 use pipe_types::step::Step;
 use pipe_types::topology::{Dispatch, Role, Topology};
 use std::alloc::AllocError;
+
+/// The least place that no unit reaches.
+fn reach(units: &[Sent]) -> usize
+    ensures above { All (λ d. d.unit < result) units.now }
+    ensures least { (n : ℕ) → All (λ d. d.unit < n) units.now → result ≤ n }
+{
+    let mut reach = 0;
+    for sent in units {
+        reach = reach.max(sent.unit as usize + 1);
+    }
+    reach
+}
 
 /// Names each unit by its number in place of where it waits.
 fn name_units(units: &mut Vec<Sent>, numbers: &[u32])
@@ -107,7 +119,8 @@ fn send_batches(
 {
     let at = stage.0 as usize;
     let mark = core.journal.len();
-    let numbers = core.waiting[at].numbers()?;
+    let most = reach(&sent).max(served);
+    let numbers = core.waiting[at].first_numbers(most)?;
     let mut units = sent;
     name_units(&mut units, &numbers);
     begin_all(&mut core.legs, &mut core.batches, &units)?;

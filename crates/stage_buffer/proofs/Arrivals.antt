@@ -169,7 +169,7 @@ module _ {X : Type 0} where
 
   -- Where there is one part
 
-  abbrev OfPart : ℕ → List (Entry X) → Type 0
+  abbrev pub OfPart : ℕ → List (Entry X) → Type 0
   OfPart p [] = Unit {0}
   OfPart p (e ∷ es) = (e.part ≡ p) × OfPart p es
 
@@ -181,7 +181,7 @@ module _ {X : Type 0} where
       either true deep = (is, h)
       either false deep = (h.0, deep)
 
-  all_of : (p : ℕ) (ring : List (Arrived X)) → OfPart p (insert_all p ring [])
+  pub all_of : (p : ℕ) (ring : List (Arrived X)) → OfPart p (insert_all p ring [])
   all_of p [] = tt
   all_of p (a ∷ ring) = insert_of p (entry p a) (insert_all p ring []) refl (all_of p ring)
 

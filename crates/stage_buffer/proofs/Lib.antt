@@ -8,3 +8,4 @@ pub mod Popping
 pub mod Rings
 pub mod Search
 pub mod Contents
+pub mod Firsts

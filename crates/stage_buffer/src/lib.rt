@@ -2,7 +2,8 @@
 //!
 //! A contract sees the list of (part, unit) with the number of parts, the size and which end is kept, for each part how
 //! many units it takes without more memory, and how many units ever arrived. `push` alone lowers a `spare`, that of its
-//! part by at most 1. `new`, `reserve`, `parts` and `numbers` alone take memory.
+//! part by at most 1. `new`, `reserve`, `parts`, `numbers` and `first_numbers` alone
+//! take memory.
 #![tactic(auto)]
 
 ghost use Rattle.std.specs.Prelude.{◌≡◌, ℕ, ◌+◌, ◌-◌, ◌<◌, ◌≤◌, ◌^◌, ◌++◌, ◌∷◌, [], length, map, take, drop, replicate, option_map, slice_get, option_copied, OnOk, IfOk, OnErr, IfSome, IsNone, if◌then◌else◌, ◌==◌};
@@ -224,6 +225,19 @@ impl Buffer<u32> {
         values_of(alloc, &arrivals)
     }
 
+    /// The first so many units, in order of arrival. Of one part it reads no more than these.
+    pub fn first_numbers(&self, most: usize) -> Result<Vec<u32>, AllocError>
+        ensures { IfOk result (λ numbers. numbers.items ≡ take most (map (λ u. u.1) self.now.units)) }
+    {
+        if self.rings.len() == 1 {
+            let alloc = *self.rings.allocator();
+            return first_in(alloc, &self.rings[0], most);
+        }
+        let mut numbers = self.numbers()?;
+        numbers.truncate(most);
+        Ok(numbers)
+    }
+
     /// Whether the unit waits.
     pub fn contains(&self, unit: u32) -> bool
         ensures { result ≡ waits unit self.now.units }
@@ -339,6 +353,25 @@ fn values_of(alloc: Global, arrivals: &[Arrival]) -> Result<Vec<u32>, AllocError
         values.push_reserved(arrival.value);
     }
     Ok(values)
+}
+
+/// The numbers of the first so many units of a ring.
+fn first_in(
+    alloc: Global,
+    ring: &HeapCircularBuffer<Arrived<u32>>,
+    most: usize,
+) -> Result<Vec<u32>, AllocError>
+    ensures { IfOk result (λ numbers. numbers.items ≡ take most (map unit_of ring.now.items)) }
+{
+    let count = most.min(ring.len());
+    let mut numbers = Vec::with_capacity(alloc, count)?;
+    for k in 0..count {
+        let Some(arrived) = ring.get(k) else {
+            unreachable!();
+        };
+        numbers.push_reserved(arrived.unit);
+    }
+    Ok(numbers)
 }
 
 /// The unit of an arrival.
