@@ -6,7 +6,7 @@ use Rattle.std.proofs.lemmas.List.{map-append, length-map, take_more, take_all, 
 use Rattle.circular_buffer.specs.Buffer.{Buffer}
 use Rattle.stage_buffer.specs.declared.Arrived.{Arrived}
 use Rattle.stage_buffer.specs.Waiting.{units_of_part}
-use Rattle.stage_buffer.specs.Order.{Entry, insert_all, in_order, items_at, pair_of, unit_of, Orders}
+use Rattle.stage_buffer.specs.Order.{Entry, insert_all, in_order, pair_of, unit_of, Orders}
 use Rattle.stage_buffer.proofs.Arrivals.{OfPart, all_of}
 use Rattle.stage_buffer.proofs.Changes.{units_at}
 

@@ -1,4 +1,4 @@
-use Rattle.std.proofs.Common.{◌≡◌, ℕ, suc, ◌<◌, ◌≤◌, List, length, ◌∙◌, arith, refl, ap, sym, subst, All, drop, take, ◌++◌, [], ◌∷◌, Some}
+use Rattle.std.proofs.Common.{◌≡◌, ℕ, suc, ◌<◌, ◌≤◌, List, length, ◌∙◌, arith, refl, ap, sym, subst, All, drop, take, ◌++◌, ◌∷◌, Some}
 use Rattle.std.specs.Prelude.{option_map, slice_get, filter, not, ◌&&◌}
 use Rattle.std.specs.Vec.{with_item}
 use Rattle.std.proofs.lemmas.List.{length-take, take-take}
