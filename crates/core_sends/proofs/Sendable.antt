@@ -74,6 +74,12 @@ pub firsts_read : (core : Core) (s : StageNo) (queue : Waiting ℕ) (most : ℕ)
 firsts_read core s queue most numbers x allowed read are =
     are ∙ ap (take most) (numbers_read core s queue (map (λ (u : ℕ × ℕ). u.1) queue.units) x allowed read refl)
 
+-- as many are read as the plan reaches
+pub all_reached : (plan units : List Sent) (reach most : ℕ) → units ≡ plan → All (λ d. d.unit < reach) units → reach ≤ most → All (λ d. d.unit < most) plan
+all_reached plan units reach most is above le k e below =
+    let all : All (λ (d : Sent). d.unit < reach) plan = subst (All (λ (d : Sent). d.unit < reach)) is above in
+    omega (arith, all k e below, le)
+
 -- where as many are read as the plan reaches, each of its units is among them
 pub plan_within : (topology : Topology) (before : History) (s : StageNo) (most : ℕ) (numbers : List ℕ) (plan : List Sent) → numbers ≡ take most (waiting topology before s) → plan ≡ planned topology before s []
     → All (λ d. d.unit < most) plan → All (λ d. d.unit < length numbers) plan

@@ -26,9 +26,9 @@ use Rattle.core_sends.proofs.AfterBatches.{are_begun, batch_fields, still_stands
 use Rattle.core_sends.proofs.BatchesSent.{units_closed, none_begun, none_noted}
 use Rattle.core_sends.proofs.LoneLog.{messages_alone, alone_acks, alone_rows}
 use Rattle.core_sends.proofs.Roomy.{left_queues}
-use Rattle.core_sends.proofs.Sendable.{dispatching, units_within, units_live, units_asked, room_sent, queue_read, numbers_read, firsts_read, many_wait, plan_within, units_named, plan_named, sent_well, kept_twice}
+use Rattle.core_sends.proofs.Sendable.{dispatching, units_within, units_live, units_asked, room_sent, queue_read, numbers_read, firsts_read, many_wait, all_reached, plan_within, units_named, plan_named, sent_well, kept_twice}
 use Rattle.core_sends.proofs.Served.{served_within, lone_is, left_unsent, left_queue, queue_endable, placed_alike, marked_rows, served_is}
-use Rattle.core_sends.proofs.sending.send_batches.Goals.{After-max-most, After-name_units}
+use Rattle.core_sends.proofs.sending.send_batches.Goals.{After-name_units}
 use Rattle.core_sends.proofs.sending.send_batches.Goals as goal
 
 pub index-requires : goal.index-requires
@@ -39,17 +39,11 @@ pub index_mut-queue-requires : goal.index_mut-queue-requires
 index_mut-queue-requires c =
     omega (arith, (dispatching c.args.core.now c.args.stage c.requires.stands.holds c.requires.legal).within, c.requires.stands.holds.fields.sized.waiting)
 
--- as many are read as the plan reaches
-reached : (c : After-max-most) → All (λ (d : Sent). d.unit < c.max-most.result) c.args.sent.items
-reached c k e below =
-    let all : All (λ (d : Sent). d.unit < c.reach.result) c.args.sent.items = subst (All (λ (d : Sent). d.unit < c.reach.result)) c.deref.ensures.value c.reach.ensures.above in
-    omega (arith, all k e below, c.max-most.ensures)
-
 pub name_units-requires : goal.name_units-requires
 name_units-requires c =
     let core = c.args.core.now in
     let listed = c.deref-2.ensures.value ∙ firsts_read core c.args.stage c.index.result.now c.max-most.result c.in_ok-numbers.numbers.items c.requires.stands.holds c.requires.legal c.index.ensures c.in_ok-numbers.ensures in
-    record { within = plan_within core.topology core.journal.steps c.args.stage c.max-most.result c.deref-2.result.now c.args.sent.items listed c.requires.planned (reached (goal.at.name_units-requires c).After-max-most) }
+    record { within = plan_within core.topology core.journal.steps c.args.stage c.max-most.result c.deref-2.result.now c.args.sent.items listed c.requires.planned (all_reached c.args.sent.items c.deref.result.now c.reach.result c.max-most.result c.deref.ensures.value c.reach.ensures.above (omega (arith, c.max-most.ensures))) }
 
 -- what is named is what is sent
 sent : (c : After-name_units) → c.name_units.new.units.items ≡ deliveries c.args.core.now.topology c.args.core.now.journal.steps c.args.stage
@@ -57,7 +51,7 @@ sent c =
     let core = c.args.core.now in
     units_named core.topology core.journal.steps c.args.stage c.max-most.result c.deref-2.result.now c.args.sent.items c.name_units.new.units.items
     (c.deref-2.ensures.value ∙ firsts_read core c.args.stage c.index.result.now c.max-most.result c.in_ok-numbers.numbers.items c.requires.stands.holds c.requires.legal c.index.ensures c.in_ok-numbers.ensures)
-    c.requires.planned (reached c.After-max-most) c.name_units.ensures
+    c.requires.planned (all_reached c.args.sent.items c.deref.result.now c.reach.result c.max-most.result c.deref.ensures.value c.reach.ensures.above (omega (arith, c.max-most.ensures))) c.name_units.ensures
 
 -- those that are served are among them
 served_read : (served most : ℕ) (numbers ws : List ℕ) → numbers ≡ take most ws → served ≤ most → take served numbers ≡ take served ws
