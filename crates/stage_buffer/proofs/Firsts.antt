@@ -51,3 +51,9 @@ module _ {X : Type 0} where
       ∙ (sym (units_at (ring ∷ []) (insert_all 0 ring.items []) 0 orders)
       ∙ units_of (insert_all 0 ring.items []) (all_of 0 ring.items))
   only_part (ring ∷ other ∷ rings) d one is orders = absurd (omega (arith, one))
+
+  -- all of them
+  pub all_units : (rings : List (Buffer (Arrived X))) (d : Buffer (Arrived X)) (len : ℕ) → length rings ≡ 1 → d ≡ get_or rings 0 d → Orders rings (in_order 0 rings) → length (in_order 0 rings) ≡ len → take len (map unit_of d.items) ≡ map (λ (u : ℕ × X). u.1) (map pair_of (in_order 0 rings))
+  all_units rings d len one is orders counted =
+      ap (take len) (only_part rings d one is orders)
+      ∙ take_all len (map (λ (u : ℕ × X). u.1) (map pair_of (in_order 0 rings))) (omega (arith, length-map (map pair_of (in_order 0 rings)) (λ (u : ℕ × X). u.1), length-map (in_order 0 rings) (pair_of {X = X}), counted))

@@ -220,6 +220,9 @@ impl Buffer<u32> {
         ensures { IfOk result (λ numbers. numbers.items ≡ map (λ u. u.1) self.now.units) }
     {
         let alloc = *self.rings.allocator();
+        if self.rings.len() == 1 {
+            return first_in(alloc, &self.rings[0], self.len as usize);
+        }
         let mut arrivals = numbered_in(alloc, &self.rings, self.len as usize)?;
         arrivals.sort_by_key(|arrival| arrival.at)?;
         values_of(alloc, &arrivals)
